@@ -12,7 +12,7 @@ pub const MOST_WEIGHTS: usize = 32;
 // The largest product of a total and the sum of its weights.
 const LARGEST_PRODUCT: u128 = 4_000_000_000_000_000_000;
 
-fn weight_sum(weights: &[u32]) -> u64
+fn sum_of_few(weights: &[u32]) -> u64
     requires { ⌜ length (now weights) ≤ 32 ⌝ }
     ensures { λ r. ⌜ r ≡ sum (now (weights .entry)) ⌝ }
 {
@@ -23,16 +23,28 @@ fn weight_sum(weights: &[u32]) -> u64
     all
 }
 
+// The sum of at most 32 weights.
+pub fn weight_sum(weights: &[u32]) -> Result<u64, DivideRefusal>
+    ensures { λ r. ⌜ Cases r
+        (λ w. (length (now (weights .entry)) ≤ 32) × (w ≡ sum (now (weights .entry))))
+        (λ e. (32 < length (now (weights .entry))) × (number e ≡ 6)) ⌝ }
+{
+    if weights.len() > MOST_WEIGHTS {
+        return Err(DivideRefusal::ListLength);
+    }
+    Ok(sum_of_few(weights))
+}
+
 // The sum of the weights, or why the total is not shared among them into so many places.
 pub(crate) fn admit(total: u64, weights: &[u32], places: usize) -> Result<u64, DivideRefusal>
     ensures { λ r. ⌜ Cases r
         (λ w. (refusal total (now (weights .entry)) places ≡ 0) × (w ≡ sum (now (weights .entry))))
         (λ e. refusal total (now (weights .entry)) places ≡ number e) ⌝ }
 {
-    if weights.len() > MOST_WEIGHTS || places != weights.len() {
+    let all = weight_sum(weights)?;
+    if places != weights.len() {
         return Err(DivideRefusal::ListLength);
     }
-    let all = weight_sum(weights);
     if all == 0 && total != 0 {
         return Err(DivideRefusal::NoWeight);
     }

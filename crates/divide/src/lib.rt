@@ -6,6 +6,7 @@ mod refusal;
 mod remainders;
 mod running;
 
+pub use admit::weight_sum;
 pub use any::AnyDivider;
 pub use any::AnyDividerDivider;
 pub use divider::Divider;

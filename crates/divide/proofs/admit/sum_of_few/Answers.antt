@@ -4,7 +4,7 @@ use borrow.Author.Needs.{needs}
 use Rattle.std.specs.shelf.Lists.{sum}
 use Rattle.std.proofs.shelf.Lists.{take-all}
 use Rattle.divide.proofs.Sums.{prefix-more}
-use Rattle.divide.proofs.admit.weight_sum.Needs as need
+use Rattle.divide.proofs.admit.sum_of_few.Needs as need
 
 pub loop-weight-again : need.loop-weight-again
 loop-weight-again c =
