@@ -14,7 +14,7 @@ use Rattle.std.proofs.shelf.Bits.{le-div}
 use Rattle.std.proofs.shelf.Counted.{sumBy-map-counting-more}
 use Rattle.std.proofs.shelf.Edits.{fill-by-more}
 use Rattle.std.proofs.shelf.Lists.{take-all}
-use Rattle.std.proofs.shelf.Sums.{sumBy-more, sumBy-cons, getD-le-sumBy}
+use Rattle.std.proofs.shelf.Sums.{sumBy-more, sumBy-cons, sumBy-take-le, getD-le-sumBy}
 use Rattle.std.proofs.shelf.Tests.{cases-lt}
 
 pub div-mono : (a b c : ℕ) → a ≤ b → a / c ≤ b / c
@@ -40,6 +40,12 @@ prefix-up xs k =
 pub prefix-all : (xs : List ℕ) → sum (take (length xs) xs) ≡ sum xs
 prefix-all xs = ap sum (take-all (length xs) xs (omega arith))
 
+-- one element more in a running sum
+pub prefix-turn : (xs : List ℕ) (k x so-far all : ℕ) → k < length xs → all ≡ sum xs → so-far ≡ sum (take k xs) → x ≡ getD xs k 0 → (so-far + x ≡ sum (take (k + 1) xs)) × (so-far + x ≤ all)
+prefix-turn xs k x so-far all h whole e is =
+    let more = prefix-more xs k h in
+    (omega arith, omega (arith, sumBy-take-le (λ y. y) xs (k + 1)))
+
 -- the sum of f at each place below n
 pub sum-more : (f : ℕ → ℕ) (n : ℕ) → sum (map f (counting 0 (suc n))) ≡ sum (map f (counting 0 n)) + f n
 sum-more f n =
@@ -51,9 +57,9 @@ telescopes q up zero = zero-add (q 0)
 telescopes q up (suc n) =
     omega (arith, sum-more (λ k. q (k + 1) - q k) n, telescopes q up n, up n, ap q (add-one n))
 
--- the product at one place is within the whole product
-pub product-le : (t all : ℕ) (ws : List ℕ) (k : ℕ) → k < length ws → all ≡ sum ws → t * getD ws k 0 ≤ t * all
-product-le t all ws k h e = mul-le-mul-left t (omega (arith, getD-le-sumBy (λ x. x) ws k 0 h))
+-- the product of the weight w at one place is within the whole product
+pub product-le : (t all w : ℕ) (ws : List ℕ) (k : ℕ) → k < length ws → all ≡ sum ws → w ≡ getD ws k 0 → t * w ≤ t * all
+product-le t all w ws k h whole e = mul-le-mul-left t (omega (arith, getD-le-sumBy (λ x. x) ws k 0 h))
 
 -- a loop's write of what f says at the next place
 pub write-more : (f : ℕ → ℕ) (xs : List ℕ) (i y : ℕ) → i < length xs → ((k : ℕ) → k < i → getD xs k 0 ≡ f k) → y ≡ f i → (k : ℕ) → k < i + 1 → getD (set xs i y) k 0 ≡ f k

@@ -1,5 +1,5 @@
 ghost use mathlib.Core.Path.{_≡_};
-ghost use Prim.Native.Nat.{ℕ, _<_, _≤_};
+ghost use Prim.Native.Nat.{ℕ, _*_, _/_, _^_, _<_, _≤_};
 ghost use lib.ListN.{length, getD};
 ghost use Rattle.std.specs.shelf.Lists.{sum};
 ghost use Rattle.std.specs.Results.{Cases};
@@ -52,6 +52,15 @@ pub(crate) fn admit(total: u64, weights: &[u32], places: usize) -> Result<u64, D
         return Err(DivideRefusal::ProductTooLarge);
     }
     Ok(all)
+}
+
+// What a weight comes to of the total, `total × weight / all`, rounded down.
+pub(crate) fn part_of(total: u64, weight: u64, all: u64) -> u64
+    requires some { ⌜ 0 < all ⌝ }
+    requires small { ⌜ total * weight < 2 ^ 64 ⌝ }
+    ensures { λ r. ⌜ r ≡ total * weight / all ⌝ }
+{
+    total * weight / all
 }
 
 // Writes 0 at every place.

@@ -6,6 +6,7 @@ ghost use Rattle.divide.specs.Remainders.{floors, rests, precedes, rank, toppe
 use crate::admit::MOST_WEIGHTS;
 use crate::admit::admit;
 use crate::admit::clear;
+use crate::admit::part_of;
 use crate::divider::Divider;
 use crate::refusal::DivideRefusal;
 
@@ -24,9 +25,9 @@ fn round_down(total: u64, all: u64, weights: &[u32], parts: &mut [u64], left: &m
     ensures left { λ _. ⌜ now (left .exit) ≡ rests total (now (weights .entry)) ⌝ }
 {
     for (place, weight) in weights.iter().enumerate() {
-        let product = total * u64::from(*weight);
-        parts[place] = product / all;
-        left[place] = product % all;
+        let weight = u64::from(*weight);
+        parts[place] = part_of(total, weight, all);
+        left[place] = total * weight % all;
     }
 }
 

@@ -5,6 +5,7 @@ ghost use Rattle.std.specs.shelf.Lists.{sum};
 ghost use Rattle.divide.specs.Running.{running};
 use crate::admit::admit;
 use crate::admit::clear;
+use crate::admit::part_of;
 use crate::divider::Divider;
 use crate::refusal::DivideRefusal;
 
@@ -25,7 +26,7 @@ fn fill_running(total: u64, all: u64, weights: &[u32], out: &mut [u64])
     let mut given = 0;
     for (place, weight) in weights.iter().enumerate() {
         weight_so_far += u64::from(*weight);
-        let reached = total * weight_so_far / all;
+        let reached = part_of(total, weight_so_far, all);
         out[place] = reached - given;
         given = reached;
     }

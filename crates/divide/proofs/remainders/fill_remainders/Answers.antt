@@ -1,4 +1,4 @@
-use mathlib.Core.Path.{_≡_, ap}
+use mathlib.Core.Path.{refl, ap}
 use Prim.Native.Nat.{_*_, _<_}
 use native.Mathlib.Nat.{div-le-self}
 use native.Mathlib.Omega.{arith}
@@ -22,5 +22,5 @@ hand-out-requires c κs =
     let each = floors-each t ws in
     record {
       long = omega (arith, ap length (c .round-down .ensures .left), rests-each t ws);
-      room = λ k h. let in-list : k < length ws = omega arith in omega (arith, ap (λ xs. getD xs k 0) (c .round-down .ensures .parts), floors-at t ws k in-list, div-le-self (t * getD ws k 0) (sum ws), product-le t (c .args .all) ws k in-list (c .pre .whole));
+      room = λ k h. let in-list : k < length ws = omega arith in omega (arith, ap (λ xs. getD xs k 0) (c .round-down .ensures .parts), floors-at t ws k in-list, div-le-self (t * getD ws k 0) (sum ws), product-le t (c .args .all) (getD ws k 0) ws k in-list (c .pre .whole) refl);
     }

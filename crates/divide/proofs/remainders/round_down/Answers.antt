@@ -8,10 +8,15 @@ use Rattle.divide.proofs.Sums.{product-le}
 use Rattle.divide.proofs.Rests.{floors-each, rests-each, floors-at, rests-at}
 use Rattle.divide.proofs.remainders.round_down.Needs as need
 
-pub mul-product : need.mul-product
-mul-product c =
-    let t = c .args .total in
-    omega (arith, ap (λ w. t * w) (c .from .ensures), product-le t (c .args .all) (c .args .weights .now) (c .loop-place .place) (c .loop-place-test .taken) (c .pre .whole))
+pub part-of-requires : need.part-of-requires
+part-of-requires c κs = record {
+  some = c .pre .some;
+  small = omega (arith, product-le (c .args .total) (c .args .all) (c .from-weight .result) (c .args .weights .now) (c .loop-place .place) (c .loop-place-test .taken) (c .pre .whole) (c .from-weight .ensures));
+}
+
+pub mul-left : need.mul-left
+mul-left c =
+    omega (arith, product-le (c .args .total) (c .args .all) (c .from-weight .result) (c .args .weights .now) (c .loop-place .place) (c .loop-place-test .taken) (c .pre .whole) (c .from-weight .ensures))
 
 pub returns : need.returns
 returns c =

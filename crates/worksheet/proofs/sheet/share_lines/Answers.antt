@@ -1,4 +1,4 @@
-use mathlib.Core.Path.{_≡_, sym, ap, _∙_}
+use mathlib.Core.Path.{refl, ap}
 use mathlib.Core.List.{_++_, [], _∷_}
 use native.Mathlib.Omega.{arith}
 use lib.ListN.{length, getD}
@@ -11,7 +11,7 @@ use Rattle.worksheet.proofs.sheet.share_lines.Needs as need
 
 pub exact-part-whole-requires : need.exact-part-whole-requires
 exact-part-whole-requires c κs =
-    omega (arith, product-le (c .args .total) (c .args .all) (c .args .weights .now) (c .loop-place .place) (c .loop-place-test .taken) (c .pre .whole))
+    omega (arith, product-le (c .args .total) (c .args .all) (getD (c .args .weights .now) (c .loop-place .place) 0) (c .args .weights .now) (c .loop-place .place) (c .loop-place-test .taken) (c .pre .whole) refl)
 
 pub index-by-remainders-place : need.index-by-remainders-place
 index-by-remainders-place c = omega (arith, ap length (c .pre .first), remainders-each (c .args .total) (c .args .weights .now))
