@@ -7,14 +7,14 @@ use lib.ListN.{length, getD}
 use Rattle.std.specs.shelf.Lists.{sum}
 use Rattle.std.proofs.shelf.Lists.{ext-getD}
 use Rattle.std.proofs.shelf.Ways.{tells}
-use Rattle.divide.specs.Refusals.{refusal, Shareable}
+use Rattle.divide.specs.Refusals.{most-weights, largest-product, refusal, Shareable}
 use Rattle.divide.specs.Exact.{Exact}
 
 pub record Admitted (t : ℕ) (ws : List ℕ) (places : ℕ) : Type 0 where
-  pub few : length ws ≤ 32
+  pub few : length ws ≤ most-weights
   pub long : places ≡ length ws
   pub some : sum ws ≡ 0 → t ≡ 0
-  pub small : t * sum ws ≤ 4000000000000000000
+  pub small : t * sum ws ≤ largest-product
 
 pub admitted : (t : ℕ) (ws : List ℕ) (places : ℕ) → refusal t ws places ≡ 0 → Admitted t ws places
 admitted t ws places h = record {

@@ -22,13 +22,21 @@ abbrev pub answered : {X : Type 0} → Result X DivideRefusal → ℕ
 answered (Ok x) = 0
 answered (Err e) = number e
 
+-- the most weights that a total is shared among
+abbrev pub most-weights : ℕ
+most-weights = 32
+
+-- the largest product of a total and the sum of its weights
+abbrev pub largest-product : ℕ
+largest-product = 4000000000000000000
+
 -- the number of the first refusal that applies where the total t is to be shared among the weights ws into a
 -- slice of so many places; 0 where none does
 abbrev pub refusal : ℕ → List ℕ → ℕ → ℕ
 refusal t ws places =
-    cond (ltb 32 (length ws) || not (eqb places (length ws))) (number ListLength)
+    cond (ltb most-weights (length ws) || not (eqb places (length ws))) (number ListLength)
     (cond (eqb (sum ws) 0 && not (eqb t 0)) (number NoWeight)
-    (cond (ltb 4000000000000000000 (t * sum ws)) (number ProductTooLarge) 0))
+    (cond (ltb largest-product (t * sum ws)) (number ProductTooLarge) 0))
 
 -- no refusal applies, given as many places as weights
 abbrev pub Shareable : ℕ → List ℕ → Type 0

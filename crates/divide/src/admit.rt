@@ -1,9 +1,10 @@
 ghost use mathlib.Core.Path.{_≡_};
-ghost use Prim.Native.Nat.{ℕ, _*_, _/_, _^_, _<_, _≤_};
-ghost use lib.ListN.{length, getD};
+ghost use Prim.Native.Nat.{_<_, _≤_};
+ghost use lib.ListN.{length};
 ghost use Rattle.std.specs.shelf.Lists.{sum};
 ghost use Rattle.std.specs.Results.{Cases};
-ghost use Rattle.divide.specs.Refusals.{number, refusal};
+ghost use Rattle.divide.specs.Refusals.{number, most-weights, refusal};
+ghost use Rattle.divide.specs.declared.refusal.DivideRefusal.the-variants.{ListLength};
 use crate::refusal::DivideRefusal;
 
 // The most weights that a total is shared among.
@@ -13,7 +14,7 @@ pub const MOST_WEIGHTS: usize = 32;
 const LARGEST_PRODUCT: u128 = 4_000_000_000_000_000_000;
 
 fn sum_of_few(weights: &[u32]) -> u64
-    requires { ⌜ length (now weights) ≤ 32 ⌝ }
+    requires { ⌜ length (now weights) ≤ most-weights ⌝ }
     ensures { λ r. ⌜ r ≡ sum (now (weights .entry)) ⌝ }
 {
     let mut all = 0;
@@ -23,11 +24,11 @@ fn sum_of_few(weights: &[u32]) -> u64
     all
 }
 
-// The sum of at most 32 weights.
+// The sum of the weights, of which there may be 32 at most.
 pub fn weight_sum(weights: &[u32]) -> Result<u64, DivideRefusal>
     ensures { λ r. ⌜ Cases r
-        (λ w. (length (now (weights .entry)) ≤ 32) × (w ≡ sum (now (weights .entry))))
-        (λ e. (32 < length (now (weights .entry))) × (number e ≡ 6)) ⌝ }
+        (λ w. (length (now (weights .entry)) ≤ most-weights) × (w ≡ sum (now (weights .entry))))
+        (λ e. (most-weights < length (now (weights .entry))) × (e ≡ ListLength)) ⌝ }
 {
     if weights.len() > MOST_WEIGHTS {
         return Err(DivideRefusal::ListLength);
@@ -52,22 +53,4 @@ pub(crate) fn admit(total: u64, weights: &[u32], places: usize) -> Result<u64, D
         return Err(DivideRefusal::ProductTooLarge);
     }
     Ok(all)
-}
-
-// What a weight comes to of the total, `total × weight / all`, rounded down.
-pub(crate) fn part_of(total: u64, weight: u64, all: u64) -> u64
-    requires some { ⌜ 0 < all ⌝ }
-    requires small { ⌜ total * weight < 2 ^ 64 ⌝ }
-    ensures { λ r. ⌜ r ≡ total * weight / all ⌝ }
-{
-    total * weight / all
-}
-
-// Writes 0 at every place.
-pub(crate) fn clear(out: &mut [u64])
-    ensures { λ _. ⌜ ((k : ℕ) → k < length (now (out .exit)) → getD (now (out .exit)) k 0 ≡ 0) ⌝ }
-{
-    for share in out.iter_mut() {
-        *share = 0;
-    }
 }

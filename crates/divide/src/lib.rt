@@ -2,6 +2,7 @@
 mod admit;
 mod any;
 mod divider;
+mod places;
 mod refusal;
 mod remainders;
 mod running;

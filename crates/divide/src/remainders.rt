@@ -2,12 +2,13 @@ ghost use mathlib.Core.Path.{_≡_};
 ghost use Prim.Native.Nat.{ℕ, _+_, _-_, _*_, _^_, _<_, _≤_};
 ghost use lib.ListN.{length, getD};
 ghost use Rattle.std.specs.shelf.Lists.{sum};
+ghost use Rattle.divide.specs.Refusals.{most-weights};
 ghost use Rattle.divide.specs.Remainders.{floors, rests, precedes, rank, topped, remainders};
 use crate::admit::MOST_WEIGHTS;
 use crate::admit::admit;
-use crate::admit::clear;
-use crate::admit::part_of;
 use crate::divider::Divider;
+use crate::places::clear;
+use crate::places::part_of;
 use crate::refusal::DivideRefusal;
 
 // Each share is rounded down; the units left over go one each to the largest remainders, ties to the lower place.
@@ -77,7 +78,7 @@ fn hand_out(units: u64, left: &[u64], shares: &mut [u64])
 
 // Writes the shares by largest remainders, where the weights add up to `all` and that is above 0.
 fn fill_remainders(total: u64, all: u64, weights: &[u32], out: &mut [u64])
-    requires few { ⌜ length (now weights) ≤ 32 ⌝ }
+    requires few { ⌜ length (now weights) ≤ most-weights ⌝ }
     requires long { ⌜ length (now out) ≡ length (now weights) ⌝ }
     requires whole { ⌜ all ≡ sum (now weights) ⌝ }
     requires some { ⌜ 0 < all ⌝ }

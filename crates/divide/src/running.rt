@@ -4,9 +4,9 @@ ghost use lib.ListN.{length};
 ghost use Rattle.std.specs.shelf.Lists.{sum};
 ghost use Rattle.divide.specs.Running.{running};
 use crate::admit::admit;
-use crate::admit::clear;
-use crate::admit::part_of;
 use crate::divider::Divider;
+use crate::places::clear;
+use crate::places::part_of;
 use crate::refusal::DivideRefusal;
 
 // Each share is what the weights up to and with its place come to, rounded down, less the same for the place
