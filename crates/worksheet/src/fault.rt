@@ -90,16 +90,13 @@ pub impl<T: Drop> From<Refused<T>> for RequestFault as RequestFaultFromRefused {
     }
 }
 
+const TOTAL: &str = "a total, a whole number from 0 to 18446744073709551615";
+
 pub impl fmt::Display for RequestFault as RequestFaultDisplay {
     fn fmt<W: fmt::Write>(&self, f: &mut fmt::Formatter<W>) -> fmt::Result {
         match self {
-            RequestFault::NoTotal => f.write_str(
-                "expected a total, a whole number from 0 to 18446744073709551615, found nothing",
-            ),
-            RequestFault::NotATotal(word) => write!(
-                f,
-                "expected a total, a whole number from 0 to 18446744073709551615, found '{word}'"
-            ),
+            RequestFault::NoTotal => write!(f, "expected {TOTAL}, found nothing"),
+            RequestFault::NotATotal(word) => write!(f, "expected {TOTAL}, found '{word}'"),
             RequestFault::NotAWeight(place, word) => write!(
                 f,
                 "expected a weight for place {place}, a whole number from 0 to 4294967295, found '{word}'"

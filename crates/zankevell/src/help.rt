@@ -35,5 +35,5 @@ pub(crate) fn wrong_command(rt: &LibcRuntime, command: &str) -> Result<(), Faile
         eprintln!(rt, "zankevell: expected a command, found '{command}'")?;
     }
     eprint!(rt, "\n{HELP}")?;
-    Err(Failed)
+    Err(Failed::Told)
 }

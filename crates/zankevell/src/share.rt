@@ -15,7 +15,7 @@ pub(crate) fn share(rt: &LibcRuntime, words: &[String]) -> Result<(), Failed> {
         Ok(request) => answer(rt, &request),
         Err(fault) => {
             eprintln!(rt, "zankevell share: {fault}")?;
-            Err(Failed)
+            Err(Failed::Told)
         }
     }
 }
@@ -25,7 +25,7 @@ fn answer(rt: &LibcRuntime, request: &ShareRequest) -> Result<(), Failed> {
         Ok(sheet) => print!(rt, "{sheet}")?,
         Err(SheetFault::NoMemory) => {
             eprintln!(rt, "zankevell share: out of memory")?;
-            return Err(Failed);
+            return Err(Failed::Told);
         }
         Err(refused) => println!(rt, "{refused}")?,
     }
