@@ -2,4 +2,10 @@
 #[cfg(test)]
 mod dividers;
 #[cfg(test)]
+mod score_files;
+#[cfg(test)]
+mod scorers;
+#[cfg(test)]
+mod tracking;
+#[cfg(test)]
 mod worksheets;

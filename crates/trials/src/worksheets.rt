@@ -1,13 +1,6 @@
-use divide::DivideRefusal;
+use reports::report_share;
 use std::alloc::Global;
 use std::test::*;
-use worksheet::RequestFaultDebug;
-use worksheet::RequestFaultDisplay;
-use worksheet::ShareSheetDisplay;
-use worksheet::SheetFaultDebug;
-use worksheet::SheetFaultDisplay;
-use worksheet::read_request;
-use worksheet::share_sheet;
 
 // The words of a line.
 fn words_of(heap: Global, line: &str) -> Result<Vec<String>, Fail> {
@@ -18,22 +11,12 @@ fn words_of(heap: Global, line: &str) -> Result<Vec<String>, Fail> {
     Ok(words)
 }
 
-// What the program would print for the words of a line.
-fn printed(heap: Global, line: &str) -> Result<String, Fail> {
+// What the program prints for the words of a line, and whether it fails.
+fn check_printed(heap: Global, line: &str, text: &str, failed: bool) -> Result<(), Fail> {
     let words = words_of(heap, line)?;
-    let text = match read_request(heap, words.as_slice()) {
-        Ok(request) => match share_sheet(heap, request.total, request.weights.as_slice()) {
-            Ok(sheet) => format!(heap, "{sheet}")?,
-            Err(refused) => format!(heap, "{refused}")?,
-        },
-        Err(fault) => format!(heap, "{fault}")?,
-    };
-    Ok(text)
-}
-
-fn check_printed(heap: Global, line: &str, text: &str) -> Result<(), Fail> {
-    let shown = printed(heap, line)?;
-    check_eq(shown.as_str(), text)
+    let report = report_share(heap, words.as_slice())?;
+    check_eq(report.text.as_str(), text)?;
+    check_eq(report.failed, failed)
 }
 
 #[test]
@@ -48,6 +31,7 @@ fn sheets(rt: LibcRuntime) -> Result<(), Fail> {
     2       1      1 3/7           2           2
   sum       7     10              10          10
 ",
+        false,
     )?;
     check_printed(
         heap,
@@ -58,6 +42,7 @@ fn sheets(rt: LibcRuntime) -> Result<(), Fail> {
     2      20   8230452600 20/30   8230452601   8230452601
   sum      30  12345678901        12345678901  12345678901
 ",
+        false,
     )?;
     check_printed(
         heap,
@@ -65,6 +50,7 @@ fn sheets(rt: LibcRuntime) -> Result<(), Fail> {
         "place  weight  exact      remainders     running
   sum       0      0               0           0
 ",
+        false,
     )
 }
 
@@ -74,36 +60,43 @@ fn faults(rt: LibcRuntime) -> Result<(), Fail> {
     check_printed(
         heap,
         "5 0 0",
-        "refused 18: the weights add up to 0 and the total does not",
+        "refused 18: the weights add up to 0 and the total does not\n",
+        false,
     )?;
     check_printed(
         heap,
         "4000000000000000001 1",
-        "refused 19: the total times the sum of the weights is above 4000000000000000000",
+        "refused 19: the total times the sum of the weights is above 4000000000000000000\n",
+        false,
     )?;
     check_printed(
         heap,
         "1 1 1 1 1 1 1 1 1 1 1 1 1 1 1 1 1 1 1 1 1 1 1 1 1 1 1 1 1 1 1 1 1 1",
-        "refused 6: more than 32 weights",
+        "refused 6: more than 32 weights\n",
+        false,
     )?;
     check_printed(
         heap,
         "",
-        "expected a total, a whole number from 0 to 18446744073709551615, found nothing",
+        "expected a total, a whole number from 0 to 18446744073709551615, found nothing\n",
+        true,
     )?;
     check_printed(
         heap,
         "18446744073709551616 1",
-        "expected a total, a whole number from 0 to 18446744073709551615, found '18446744073709551616'",
+        "expected a total, a whole number from 0 to 18446744073709551615, found '18446744073709551616'\n",
+        true,
     )?;
     check_printed(
         heap,
         "18446744073709551615 1 4294967296 x",
-        "expected a weight for place 1, a whole number from 0 to 4294967295, found '4294967296'",
+        "expected a weight for place 1, a whole number from 0 to 4294967295, found '4294967296'\n",
+        true,
     )?;
     check_printed(
         heap,
         "1 1 -1",
-        "expected a weight for place 1, a whole number from 0 to 4294967295, found '-1'",
+        "expected a weight for place 1, a whole number from 0 to 4294967295, found '-1'\n",
+        true,
     )
 }

@@ -2,7 +2,6 @@
 mod fault;
 mod request;
 mod sheet;
-mod table;
 
 pub use fault::RequestFault;
 pub use fault::RequestFaultDebug;
@@ -18,4 +17,3 @@ pub use sheet::ShareLineDebug;
 pub use sheet::ShareLinePartialEq;
 pub use sheet::ShareSheet;
 pub use sheet::share_sheet;
-pub use table::ShareSheetDisplay;

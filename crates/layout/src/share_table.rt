@@ -1,8 +1,8 @@
 ghost use Prim.Native.Nat.{_≤_};
-use crate::sheet::ShareLine;
-use crate::sheet::ShareSheet;
 use std::fmt;
 use std::fmt::Style;
+use worksheet::ShareLine;
+use worksheet::ShareSheet;
 
 // How many digits a number has.
 fn digits(number: u64) -> usize
@@ -98,13 +98,20 @@ fn write_sums<W: fmt::Write>(
     )
 }
 
-pub impl fmt::Display for ShareSheet as ShareSheetDisplay {
+// A sheet of shares as a table.
+#[derive(Clone, Copy)]
+pub struct ShareTable<'a> {
+    pub sheet: &'a ShareSheet,
+}
+
+pub impl fmt::Display for ShareTable<'_> as ShareTableDisplay {
     fn fmt<W: fmt::Write>(&self, f: &mut fmt::Formatter<W>) -> fmt::Result {
-        let widths = Widths::of(self);
+        let sheet = self.sheet;
+        let widths = Widths::of(sheet);
         write_heading(f, widths)?;
-        for (place, line) in self.lines.iter().enumerate() {
-            write_line(f, widths, place, *line, self.weight_sum)?;
+        for (place, line) in sheet.lines.iter().enumerate() {
+            write_line(f, widths, place, *line, sheet.weight_sum)?;
         }
-        write_sums(f, widths, self)
+        write_sums(f, widths, sheet)
     }
 }
