@@ -1,10 +1,10 @@
 ghost use Rattle.std.specs.Vec.{made};
 ghost use Rattle.reports.specs.Failures.{ScoreReported};
 use crate::report::Report;
-use layout::FaultText;
-use layout::FaultTextDisplay;
-use layout::RefusalText;
-use layout::RefusalTextDisplay;
+use layout::FileFaultText;
+use layout::FileFaultTextDisplay;
+use layout::ScoreRefusalText;
+use layout::ScoreRefusalTextDisplay;
 use layout::ScoreTable;
 use layout::ScoreTableDisplay;
 use scorefile::FileFault;
@@ -25,7 +25,7 @@ fn answer(heap: Global, request: &ScoreRequest) -> Result<String, AllocError> {
             format!(heap, "{table}")
         }
         Err(refusal) => {
-            let text = RefusalText { refusal };
+            let text = ScoreRefusalText { refusal };
             format!(heap, "{text}\n")
         }
     }
@@ -42,7 +42,7 @@ pub fn report_score(heap: Global, text: &str) -> Result<Report, AllocError>
         }),
         Err(FileFault::NoMemory) => Err(AllocError),
         Err(fault) => {
-            let why = FaultText { fault: &fault };
+            let why = FileFaultText { fault: &fault };
             Ok(Report {
                 text: format!(heap, "{why}\n")?,
                 failed: true,

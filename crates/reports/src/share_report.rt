@@ -3,15 +3,17 @@ ghost use Rattle.std.specs.Of.String.{string-bytes};
 ghost use Rattle.std.specs.Vec.{made};
 ghost use Rattle.reports.specs.Failures.{ShareReported};
 use crate::report::Report;
+use layout::DivideRefusalText;
+use layout::DivideRefusalTextDisplay;
+use layout::RequestFaultText;
+use layout::RequestFaultTextDisplay;
 use layout::ShareTable;
 use layout::ShareTableDisplay;
 use std::alloc::AllocError;
 use std::alloc::Global;
 use worksheet::RequestFault;
-use worksheet::RequestFaultDisplay;
 use worksheet::ShareRequest;
 use worksheet::SheetFault;
-use worksheet::SheetFaultDisplay;
 use worksheet::read_request;
 use worksheet::share_sheet;
 
@@ -22,8 +24,11 @@ fn answer(heap: Global, request: &ShareRequest) -> Result<String, AllocError> {
             let table = ShareTable { sheet: &sheet };
             format!(heap, "{table}")
         }
+        Err(SheetFault::Refused(refusal)) => {
+            let refused = DivideRefusalText { refusal };
+            format!(heap, "{refused}\n")
+        }
         Err(SheetFault::NoMemory) => Err(AllocError),
-        Err(refused) => format!(heap, "{refused}\n"),
     }
 }
 
@@ -37,9 +42,12 @@ pub fn report_share(heap: Global, words: &[String]) -> Result<Report, AllocError
             failed: false,
         }),
         Err(RequestFault::NoMemory) => Err(AllocError),
-        Err(fault) => Ok(Report {
-            text: format!(heap, "{fault}\n")?,
-            failed: true,
-        }),
+        Err(fault) => {
+            let why = RequestFaultText { fault: &fault };
+            Ok(Report {
+                text: format!(heap, "{why}\n")?,
+                failed: true,
+            })
+        }
     }
 }

@@ -1,12 +1,11 @@
 ghost use mathlib.Core.Path.{_≡_};
 ghost use Rattle.scorefile.specs.declared.fault.FileFault.the-variants.{NoMemory};
 use crate::form::Expected;
-use crate::form::ExpectedDebug;
 use std::alloc::AllocError;
 use std::alloc::Refused;
 
 // What stands where something else was expected.
-#[derive(Debug, Drop)]
+#[derive(Drop)]
 pub enum Found {
     Word(String),
     LineEnd,
@@ -15,7 +14,7 @@ pub enum Found {
 
 // The first place of a file that is not of its form. Its line is counted from 1; at the end of the file it is the
 // last line that has words, and 0 where none has.
-#[derive(Debug, Drop)]
+#[derive(Drop)]
 pub struct Misread {
     pub line: usize,
     pub expected: Expected,
@@ -23,7 +22,7 @@ pub struct Misread {
 }
 
 // Why a file is not read.
-#[derive(Debug, Drop)]
+#[derive(Drop)]
 pub enum FileFault {
     Misread(Misread),
     NoMemory,

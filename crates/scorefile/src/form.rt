@@ -6,7 +6,7 @@ ghost use Rattle.scorefile.specs.Form.{heading-word, Named, NoName, WholeNumbe
 use score::PlainScorer;
 
 // The lines of the file, in their order, named by the word with which each begins.
-#[derive(Clone, Copy, PartialEq, Debug)]
+#[derive(Clone, Copy)]
 pub enum Heading {
     Assigned,
     Historic,
@@ -17,7 +17,7 @@ pub enum Heading {
 }
 
 // What is expected at a place of a line.
-#[derive(Clone, Copy, PartialEq, Debug)]
+#[derive(Clone, Copy)]
 pub enum Expected {
     Heading(Heading),
     // A whole number from 0 to 4294967295.

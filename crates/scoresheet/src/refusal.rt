@@ -2,14 +2,10 @@ ghost use mathlib.Core.Path.{_≡_};
 ghost use Rattle.scoresheet.specs.declared.refusal.ScoreRefusal.the-variants as refused;
 ghost use Rattle.scoresheet.specs.Refusals.{score-number};
 use score::SignalRefusal;
-use score::SignalRefusalDebug;
-use score::SignalRefusalPartialEq;
 use score::WindowRefusal;
-use score::WindowRefusalDebug;
-use score::WindowRefusalPartialEq;
 
 // Why there are no scores.
-#[derive(Clone, Copy, PartialEq, Debug)]
+#[derive(Clone, Copy)]
 pub enum ScoreRefusal {
     // The kW assigned are outside 100 to 200,000.
     Assigned,

@@ -32,14 +32,14 @@ use score::tracking_errors;
 use scorefile::ScoreRequest;
 
 // The largest error of a window, and the first point that has it, counted from 1.
-#[derive(Clone, Copy, PartialEq, Debug)]
+#[derive(Clone, Copy)]
 pub struct LargestError {
     pub point: usize,
     pub error: u64,
 }
 
 // How one resource followed the signal in one interval, and its score by each scorer.
-#[derive(Clone, Copy, PartialEq, Debug)]
+#[derive(Clone, Copy)]
 pub struct ScoreSheet {
     pub mileage: u32,
     pub last: i32,

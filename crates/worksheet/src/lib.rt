@@ -4,16 +4,9 @@ mod request;
 mod sheet;
 
 pub use fault::RequestFault;
-pub use fault::RequestFaultDebug;
-pub use fault::RequestFaultDisplay;
 pub use fault::SheetFault;
-pub use fault::SheetFaultDebug;
-pub use fault::SheetFaultDisplay;
-pub use fault::SheetFaultPartialEq;
 pub use request::ShareRequest;
 pub use request::read_request;
 pub use sheet::ShareLine;
-pub use sheet::ShareLineDebug;
-pub use sheet::ShareLinePartialEq;
 pub use sheet::ShareSheet;
 pub use sheet::share_sheet;

@@ -24,7 +24,7 @@ use std::alloc::Global;
 
 // One place: its weight, its exact proportion `whole` and `rest` / the sum of the weights, and its share by each
 // divider.
-#[derive(Clone, Copy, PartialEq, Debug)]
+#[derive(Clone, Copy)]
 pub struct ShareLine {
     pub weight: u32,
     pub whole: u64,

@@ -28,11 +28,11 @@ fn reason(refusal: ScoreRefusal) -> &'static str {
 
 // A refusal of scores, its number and why.
 #[derive(Clone, Copy)]
-pub struct RefusalText {
+pub struct ScoreRefusalText {
     pub refusal: ScoreRefusal,
 }
 
-pub impl fmt::Display for RefusalText as RefusalTextDisplay {
+pub impl fmt::Display for ScoreRefusalText as ScoreRefusalTextDisplay {
     fn fmt<W: fmt::Write>(&self, f: &mut fmt::Formatter<W>) -> fmt::Result {
         let number = self.refusal.number();
         let why = reason(self.refusal);

@@ -49,11 +49,11 @@ fn write_misread<W: fmt::Write>(f: &mut fmt::Formatter<W>, misread: &Misread) ->
 
 // Why a file is not read.
 #[derive(Clone, Copy)]
-pub struct FaultText<'a> {
+pub struct FileFaultText<'a> {
     pub fault: &'a FileFault,
 }
 
-pub impl fmt::Display for FaultText<'_> as FaultTextDisplay {
+pub impl fmt::Display for FileFaultText<'_> as FileFaultTextDisplay {
     fn fmt<W: fmt::Write>(&self, f: &mut fmt::Formatter<W>) -> fmt::Result {
         match self.fault {
             FileFault::Misread(misread) => write_misread(f, misread),
