@@ -1,5 +1,6 @@
 ghost use mathlib.Core.Path.{_≡_};
 ghost use mathlib.Core.List.{[], map};
+ghost use lib.IntN.{pos};
 ghost use lib.ListN.{drop, getD};
 ghost use Rattle.std.specs.Of.String.{string-bytes};
 ghost use Rattle.std.specs.Of.Vec.{vec-items};
@@ -53,8 +54,10 @@ fn word_at(words: &[String], place: usize) -> &str
     }
 }
 
+// The number that a word writes; 0 where it writes none.
 fn whole(word: &str) -> u32
-    ensures { λ r. ⌜ (WholeNumber (now (word .entry)) → r ≡ whole-of (now (word .entry))) ⌝ }
+    ensures value { λ r. ⌜ (WholeNumber (now (word .entry)) → r ≡ whole-of (now (word .entry))) ⌝ }
+    ensures none { λ r. ⌜ ((WholeNumber (now (word .entry)) → ⊥) → r ≡ 0) ⌝ }
 {
     match word.parse::<u32>() {
         Ok(number) => number,
@@ -62,8 +65,10 @@ fn whole(word: &str) -> u32
     }
 }
 
+// The same with a sign.
 fn signed(word: &str) -> i32
-    ensures { λ r. ⌜ (SignedNumber (now (word .entry)) → r ≡ signed-of (now (word .entry))) ⌝ }
+    ensures value { λ r. ⌜ (SignedNumber (now (word .entry)) → r ≡ signed-of (now (word .entry))) ⌝ }
+    ensures none { λ r. ⌜ ((SignedNumber (now (word .entry)) → ⊥) → r ≡ pos 0) ⌝ }
 {
     match word.parse::<i32>() {
         Ok(number) => number,

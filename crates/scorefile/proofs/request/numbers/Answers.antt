@@ -20,7 +20,7 @@ loop-word-again c =
     let at = mapped-at string-bytes xs i (c .word-item .result) [] (c .loop-word-test .taken) (c .word-item .is) ∙ sym (c .as-str .ensures .value) in
     let h : i < length ws = omega (arith, length-map xs string-bytes) in
     let same = toZ-ofZ w32 (c .signed .result) (record { sfits = c .signed .ok }) in
-    number-more ws i _ _ _ _ h at (c .pre) (λ q. same ∙ c .signed .ensures q) (c .loop-word .inv) (c .in-Continue-push .ensures tt .items)
+    number-more ws i _ _ _ _ h at (c .pre) (λ q. same ∙ c .signed .ensures .value q) (c .loop-word .inv) (c .in-Continue-push .ensures tt .items)
 
 pub returns : need.returns
 returns c =

@@ -28,9 +28,9 @@ returns c =
     let same = toZ-ofZ w32 (c .signed .result) (record { sfits = c .signed .ok }) in
     record {
       formed = c .pre;
-      assigned = read-as WholeNumber whole-of _ (line-at lines 0 .words) 1 _ _ (c .words-at-3 .ensures) (c .word-at .ensures) (c .whole .ensures) (one-of 0 _ heading.Assigned expected.Whole refl (λ k. refl) (c .pre .0 0 (omega (arith, c .pre .1))));
-      historic = read-as WholeNumber whole-of _ (line-at lines 1 .words) 1 _ _ (c .words-at-4 .ensures) (c .word-at-2 .ensures) (c .whole-2 .ensures) (one-of 1 _ heading.Historic expected.Whole refl (λ k. refl) (c .pre .0 1 (omega (arith, c .pre .1))));
-      previous = same ∙ read-as SignedNumber signed-of _ (line-at lines 2 .words) 1 _ _ (c .words-at-5 .ensures) (c .word-at-3 .ensures) (c .signed .ensures) (one-of 2 _ heading.Previous expected.Signed refl (λ k. refl) (c .pre .0 2 (omega (arith, c .pre .1))));
+      assigned = read-as WholeNumber whole-of _ (line-at lines 0 .words) 1 _ _ (c .words-at-3 .ensures) (c .word-at .ensures) (c .whole .ensures .value) (one-of 0 _ heading.Assigned expected.Whole refl (λ k. refl) (c .pre .0 0 (omega (arith, c .pre .1))));
+      historic = read-as WholeNumber whole-of _ (line-at lines 1 .words) 1 _ _ (c .words-at-4 .ensures) (c .word-at-2 .ensures) (c .whole-2 .ensures .value) (one-of 1 _ heading.Historic expected.Whole refl (λ k. refl) (c .pre .0 1 (omega (arith, c .pre .1))));
+      previous = same ∙ read-as SignedNumber signed-of _ (line-at lines 2 .words) 1 _ _ (c .words-at-5 .ensures) (c .word-at-3 .ensures) (c .signed .ensures .value) (one-of 2 _ heading.Previous expected.Signed refl (λ k. refl) (c .pre .0 2 (omega (arith, c .pre .1))));
       readings = c .in-Continue-readings .ensures tt ∙ ap (λ ws. map signed-of (drop 1 ws)) (c .words-at .ensures);
       points = c .in-Continue-points .ensures tt ∙ ap (λ ws. map signed-of (drop 1 ws)) (c .words-at-2 .ensures);
       blend = asked-by lines _ _ (c .pre) (c .words-at-6 .ensures) (c .blend-of .ensures);
