@@ -7,6 +7,10 @@ ghost use Rattle.score.specs.Scores.{band};
 use crate::scorable::FULL_SCORE;
 use crate::scorable::scorable;
 use crate::scorer::Scorer;
+use crate::window::POINTS;
+
+// An error is within the band up to so many ten-thousandths of each kW assigned: a tenth of the assignment.
+const BAND: u64 = 1_000;
 
 // The part of the points whose error is at most a tenth of the assignment.
 #[derive(Clone, Copy)]
@@ -34,6 +38,6 @@ pub impl Scorer for Band as BandScorer {
         if !scorable(assigned, errors, historic) {
             return 0;
         }
-        FULL_SCORE * count_within(errors, 1000 * u64::from(assigned)) / 30
+        FULL_SCORE * count_within(errors, BAND * u64::from(assigned)) / POINTS as u32
     }
 }

@@ -11,7 +11,7 @@ use crate::window::POINTS;
 const READINGS_A_POINT: usize = 5;
 
 // Reading `k`, where reading 0 is the one before the interval's.
-fn reading_at(previous: i32, readings: &[i32; 150], k: usize) -> i32
+fn reading_at(previous: i32, readings: &[i32; READINGS], k: usize) -> i32
     requires { ⌜ k ≤ 150 ⌝ }
     ensures { λ r. ⌜ r ≡ reading previous (now (readings .entry)) k ⌝ }
 {
@@ -19,7 +19,7 @@ fn reading_at(previous: i32, readings: &[i32; 150], k: usize) -> i32
 }
 
 // The reading that the point at a place is compared with: the one ten seconds before it.
-fn asked_at(previous: i32, readings: &[i32; 150], place: usize) -> i32
+fn asked_at(previous: i32, readings: &[i32; READINGS], place: usize) -> i32
     requires { ⌜ place < 30 ⌝ }
     ensures { λ r. ⌜ r ≡ reading previous (now (readings .entry)) (5 * place) ⌝ }
 {
@@ -41,8 +41,8 @@ pub fn tracking_errors(
     window: &ClosedWindow,
     assigned: u32,
     previous: i32,
-    readings: &[i32; 150],
-) -> [u64; 30]
+    readings: &[i32; READINGS],
+) -> [u64; POINTS]
     ensures value { λ r. ⌜ r ≡ errors assigned (now (window .entry) .points) previous (now (readings .entry)) ⌝ }
     ensures fit { λ r. ⌜ (assigned-fits assigned ≡ true → reading-fits previous ≡ true → every reading-fits (now (readings .entry)) ≡ true → every error-fits r ≡ true) ⌝ }
 {

@@ -5,6 +5,7 @@ ghost use Rattle.score.specs.Scores.{precision};
 use crate::scorable::FULL_SCORE;
 use crate::scorable::scorable;
 use crate::scorer::Scorer;
+use crate::window::POINTS;
 
 // A full score less the mean error in parts of the assignment, rounded up.
 #[derive(Clone, Copy)]
@@ -24,7 +25,7 @@ pub impl Scorer for Precision as PrecisionScorer {
         if !scorable(assigned, errors, historic) {
             return 0;
         }
-        let lost = total(errors).div_ceil(30 * u64::from(assigned));
+        let lost = total(errors).div_ceil(POINTS as u64 * u64::from(assigned));
         u64::from(FULL_SCORE).saturating_sub(lost) as u32
     }
 }

@@ -20,7 +20,7 @@ const LARGEST_POINT: u32 = 1_000_000;
 // points gathered, in the order in which they came; the others hold 0.
 #[derive(Drop)]
 pub struct GatheringWindow {
-    points: [i32; 30],
+    points: [i32; POINTS],
     sent: usize,
     ghost room: { sent ≤ 30 },
     ghost unsent: { drop sent points ≡ replicate (30 - sent) (pos 0) },
@@ -30,7 +30,7 @@ pub struct GatheringWindow {
 // A window that is only read.
 #[derive(Drop)]
 pub struct ClosedWindow {
-    points: [i32; 30],
+    points: [i32; POINTS],
     ghost fit: { every point-fits points ≡ true },
 }
 
@@ -81,7 +81,7 @@ impl GatheringWindow {
 
 impl ClosedWindow {
     // The thirty points.
-    pub fn points(&self) -> &[i32; 30]
+    pub fn points(&self) -> &[i32; POINTS]
         ensures { λ r. ⌜ now r ≡ now (self .entry) .points ⌝ }
     {
         &self.points

@@ -19,10 +19,12 @@ use score::FULL_SCORE;
 use score::Historic;
 use score::HistoricScorer;
 use score::LARGEST_ASSIGNED;
+use score::POINTS;
 use score::PlainScorer;
 use score::PlainScorerScorer;
 use score::Precision;
 use score::PrecisionScorer;
+use score::READINGS;
 use score::SMALLEST_ASSIGNED;
 use score::Scorer;
 use score::SignalRefusal;
@@ -55,7 +57,7 @@ pub struct ScoreSheet {
 struct Tracking {
     mileage: u32,
     last: i32,
-    errors: [u64; 30],
+    errors: [u64; POINTS],
 }
 
 // The first place at which an error is largest.
@@ -72,7 +74,7 @@ fn largest_place(errors: &[u64]) -> usize
     best
 }
 
-fn largest_error(errors: &[u64; 30]) -> LargestError
+fn largest_error(errors: &[u64; POINTS]) -> LargestError
     ensures { λ r. ⌜ Largest (now (errors .entry)) r ⌝ }
 {
     let place = largest_place(errors);
@@ -110,7 +112,7 @@ fn track(request: &ScoreRequest) -> Result<Tracking, ScoreRefusal>
     if request.historic > FULL_SCORE {
         return Err(ScoreRefusal::Historic);
     }
-    let Ok(readings) = <[i32; 150]>::try_from(request.readings.as_slice()) else {
+    let Ok(readings) = <[i32; READINGS]>::try_from(request.readings.as_slice()) else {
         return Err(ScoreRefusal::Signal(SignalRefusal::ReadingCount));
     };
     let (mileage, last) = mileage(request.previous, &readings)?;
