@@ -1,4 +1,4 @@
-// Runs both commands on examples, and prints what they answer, with the status where it is not 0.
+// Prints what both commands answer to examples, and 'status 1' where the program would end with it.
 use lines::Line;
 use lines::read_lines;
 use reports::Report;

@@ -1,4 +1,4 @@
-// What each command prints, and whether it failed.
+// What each command prints, which is tested, and whether it failed, which is proved.
 mod report;
 mod score_report;
 mod share_report;

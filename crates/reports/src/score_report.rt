@@ -31,7 +31,8 @@ fn answer(heap: Global, request: &ScoreRequest) -> Result<String, AllocError> {
     }
 }
 
-// What `score` prints for the text of its file. It fails where the text is not of its form.
+// What `score` prints for the text of its file. It fails where the text is not of its form; that much the contract
+// says. The wording is tested.
 pub fn report_score(heap: Global, text: &str) -> Result<Report, AllocError>
     ensures { λ r. ⌜ made r (λ p. ScoreReported (now (text .entry)) (p .failed)) ⌝ }
 {

@@ -32,7 +32,8 @@ fn answer(heap: Global, request: &ShareRequest) -> Result<String, AllocError> {
     }
 }
 
-// What `share` prints for the words after it. It fails where they are no total and weights.
+// What `share` prints for the words after it. It fails where they are no total and weights; that much the contract
+// says. The wording is tested.
 pub fn report_share(heap: Global, words: &[String]) -> Result<Report, AllocError>
     ensures { λ r. ⌜ made r (λ p. ShareReported (map string-bytes (now (words .entry))) (p .failed)) ⌝ }
 {

@@ -7,7 +7,7 @@ use crate::scorable::scorable;
 use crate::scorer::Scorer;
 use crate::window::POINTS;
 
-// A full score less the mean error in parts of the assignment, rounded up.
+// A full score less the mean error, in ten-thousandths of the assignment and rounded up; no less than 0.
 #[derive(Clone, Copy)]
 pub struct Precision;
 
