@@ -8,3 +8,4 @@ pub mod Admitted
 pub mod Sums
 pub mod Ranks
 pub mod Runs
+pub mod AnyExact

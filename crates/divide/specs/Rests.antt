@@ -1,5 +1,5 @@
 -- The division by largest remainders is exact.
-use Rattle.std.specs.Prelude.{◌≡◌, ℕ, zero, suc, ◌+◌, ◌-◌, ◌*◌, ◌/◌, ◌%◌, ◌<◌, ◌≤◌, Bool, true, false, ltb, ◌⊎◌, List, [], ◌∷◌, map, length, take, sum, nat_lt, slice_index, slice_index_or, refl}
+use Rattle.std.specs.Prelude.{◌≡◌, ℕ, zero, suc, ◌+◌, ◌*◌, ◌/◌, ◌%◌, ◌<◌, ◌≤◌, Bool, true, false, ltb, ◌⊎◌, List, [], ◌∷◌, map, length, take, sum, nat_lt, slice_index, slice_index_or, refl}
 use Rattle.std.proofs.Common.{sym, ap, subst, ◌∙◌, inl, inr, ⊎_elim, zero-mul, one-mul, mul-zero, add-mul, mul-add, mod-lt, le_of_mul-le-mul_right, arith}
 use Rattle.std.proofs.Math.Nat.{div-zero}
 use Rattle.std.specs.List.{range_with_len}
@@ -10,7 +10,7 @@ use Rattle.std.proofs.lemmas.Bool.{cases_lt, cases_Bool, cond-true, cond-false, 
 use Rattle.std.proofs.lemmas.Bool.Decides.{nat_tests}
 use Rattle.divide.specs.Refusals.{Shareable}
 use Rattle.divide.specs.Exact.{Exact, distance}
-use Rattle.divide.specs.Remainders.{floors, rests, spare, before, how_many, rank, topped, remainders}
+use Rattle.divide.specs.Remainders.{floors, rests, spare, before, how_many, rank, remainders}
 use Rattle.divide.specs.Admitted.{admitted}
 use Rattle.divide.specs.Sums.{sum-cons, prefix_suc, prefix_all, sum_more}
 use Rattle.divide.specs.Ranks.{one, how_many_le, how_many_up, chosen}

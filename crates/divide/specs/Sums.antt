@@ -1,5 +1,5 @@
 -- Sums of the first elements of a list, and sums and counts by place.
-use Rattle.std.specs.Prelude.{◌≡◌, ℕ, zero, suc, ◌+◌, ◌-◌, ◌*◌, ◌/◌, ◌<◌, ◌≤◌, Bool, true, false, cond, List, ◌∷◌, map, length, take, sum, slice_index, slice_set, refl}
+use Rattle.std.specs.Prelude.{◌≡◌, ℕ, zero, suc, ◌+◌, ◌-◌, ◌*◌, ◌/◌, ◌<◌, ◌≤◌, List, ◌∷◌, map, length, take, sum, slice_index, slice_set}
 use Rattle.std.proofs.Common.{sym, ap, ◌∙◌, ⊎_elim, div-mul-le_self, zero-add, mul-le-mul_left, add-one, arith}
 use Rattle.std.proofs.Math.Nat.{div-zero}
 use Rattle.std.specs.List.{range_with_len}

@@ -1,4 +1,5 @@
 ghost use Rattle.divide.specs.Any.{chosen};
+ghost use Rattle.divide.specs.AnyExact.{chosen_exact};
 
 use crate::divider::Divider;
 use crate::refusal::DivideRefusal;
@@ -14,6 +15,8 @@ pub enum AnyDivider {
 
 impl Divider for AnyDivider {
     ghost shares = { chosen };
+
+    ghost exact = { chosen_exact };
 
     fn divide(&self, total: u64, weights: &[u32], out: &mut [u64]) -> Result<(), DivideRefusal> {
         match self {

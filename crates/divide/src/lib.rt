@@ -1,4 +1,6 @@
 // Exact sharing of a whole total among weights: every unit of the total is in exactly one share.
+#![tactic(auto)]
+
 mod admit;
 mod any;
 mod divider;

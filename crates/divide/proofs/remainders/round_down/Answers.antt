@@ -1,18 +1,18 @@
-use Rattle.std.proofs.Common.{◌≡◌, ◌*◌, ◌/◌, ◌%◌, get_or, sym, ap, ◌∙◌, arith}
+use Rattle.std.proofs.Common.{◌*◌, ◌/◌, ◌%◌, get_or, sym, ap, ◌∙◌, arith}
 use Rattle.std.proofs.lemmas.List.{ext_get_or}
 use Rattle.divide.specs.Remainders.{floors, rests}
 use Rattle.divide.specs.Sums.{product_le}
 use Rattle.divide.specs.Rests.{floors_each, rests_each, floors_at, rests_at}
 use Rattle.divide.proofs.remainders.round_down.Goals as goal
 
-pub part-of-requires : goal.part-of-requires
-part-of-requires c = record {
+pub part_of-requires : goal.part_of-requires
+part_of-requires c = record {
   some = c.requires.some;
   small = omega (arith, product_le c.args.total c.args.all c.from-weight.result c.args.weights.now c.loop-place.place c.loop-place-test.true c.requires.whole c.from-weight.ensures);
 }
 
-pub overflow-mul-left : goal.overflow-mul-left
-overflow-mul-left c =
+pub overflow_mul-left : goal.overflow_mul-left
+overflow_mul-left c =
     omega (arith, product_le c.args.total c.args.all c.from-weight.result c.args.weights.now c.loop-place.place c.loop-place-test.true c.requires.whole c.from-weight.ensures)
 
 pub returns : goal.returns

@@ -6,23 +6,23 @@ use Rattle.divide.specs.Runs.{reached_up}
 use Rattle.divide.proofs.running.fill_running.Goals as goal
 
 -- the weight so far with this place's
-so_far : (c : goal.After-from-weight-so-far) → (c.loop-place.weight-so-far + c.from-weight-so-far.result ≡ sum (take (c.loop-place.place + 1) c.args.weights.now)) × (c.loop-place.weight-so-far + c.from-weight-so-far.result ≤ c.args.all)
-so_far c = prefix_turn c.args.weights.now c.loop-place.place c.from-weight-so-far.result c.loop-place.weight-so-far c.args.all c.loop-place-test.true c.requires.whole c.loop-place.invariant.0 c.from-weight-so-far.ensures
+so_far : (c : goal.After-from-weight_so_far) → (c.loop-place.weight_so_far + c.from-weight_so_far.result ≡ sum (take (c.loop-place.place + 1) c.args.weights.now)) × (c.loop-place.weight_so_far + c.from-weight_so_far.result ≤ c.args.all)
+so_far c = prefix_turn c.args.weights.now c.loop-place.place c.from-weight_so_far.result c.loop-place.weight_so_far c.args.all c.loop-place-test.true c.requires.whole c.loop-place.invariant.0 c.from-weight_so_far.ensures
 
-pub overflow-add-weight-so-far : goal.overflow-add-weight-so-far
-overflow-add-weight-so-far c = omega (arith, so_far c)
+pub overflow_add-weight_so_far : goal.overflow_add-weight_so_far
+overflow_add-weight_so_far c = omega (arith, so_far c)
 
-pub part-of-reached-requires : goal.part-of-reached-requires
-part-of-reached-requires c = record { some = c.requires.some; small = omega (arith, mul-le-mul_left c.args.total (so_far c).1) }
+pub part_of-reached-requires : goal.part_of-reached-requires
+part_of-reached-requires c = record { some = c.requires.some; small = omega (arith, mul-le-mul_left c.args.total (so_far c).1) }
 
 -- the same, and what it comes to
-next : (c : goal.After-part-of-reached) → (c.loop-place.weight-so-far + c.from-weight-so-far.result ≡ sum (take (c.loop-place.place + 1) c.args.weights.now)) × (c.part-of-reached.result ≡ reached c.args.total c.args.weights.now (c.loop-place.place + 1))
+next : (c : goal.After-part_of-reached) → (c.loop-place.weight_so_far + c.from-weight_so_far.result ≡ sum (take (c.loop-place.place + 1) c.args.weights.now)) × (c.part_of-reached.result ≡ reached c.args.total c.args.weights.now (c.loop-place.place + 1))
 next c =
-    let e = (prefix_turn c.args.weights.now c.loop-place.place c.from-weight-so-far.result c.loop-place.weight-so-far c.args.all c.loop-place-test.true c.requires.whole c.loop-place.invariant.0 c.from-weight-so-far.ensures).0 in
-    (e, cc (c.part-of-reached.ensures, c.requires.whole))
+    let e = (prefix_turn c.args.weights.now c.loop-place.place c.from-weight_so_far.result c.loop-place.weight_so_far c.args.all c.loop-place-test.true c.requires.whole c.loop-place.invariant.0 c.from-weight_so_far.ensures).0 in
+    (e, cc (c.part_of-reached.ensures, c.requires.whole))
 
-pub overflow-sub-out : goal.overflow-sub-out
-overflow-sub-out c = omega (arith, (next c).1, reached_up c.args.total c.args.weights.now c.loop-place.place, c.loop-place.invariant.1)
+pub overflow_sub-out : goal.overflow_sub-out
+overflow_sub-out c = omega (arith, (next c).1, reached_up c.args.total c.args.weights.now c.loop-place.place, c.loop-place.invariant.1)
 
 pub loop-place-preserved : goal.loop-place-preserved
 loop-place-preserved c = (

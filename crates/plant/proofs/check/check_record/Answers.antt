@@ -4,13 +4,13 @@ use Rattle.plant.specs.Plants.{plant_of}
 use Rattle.plant.specs.Records.{or_else, rule_fault, record_fault}
 use Rattle.plant.proofs.check.check_record.Goals as goal
 
-pub returns-in-err-check-ranges : goal.returns-in-err-check-ranges
+pub returns-in_err-check_ranges : goal.returns-in_err-check_ranges
 unfolding record_fault
-returns-in-err-check-ranges c =
+returns-in_err-check_ranges c =
     let p = err_from_is_err_and c.from-residual.result c.from-residual.ensures.1 in
-    rw (p.1, p.2) (ap (λ o. or_else o (rule_fault (plant_of c.args.record.now))) c.in-err-check-ranges.ensures)
+    rw (p.1, p.2) (ap (λ o. or_else o (rule_fault (plant_of c.args.record.now))) c.in_err-check_ranges.ensures)
 
 pub returns : goal.returns
 unfolding record_fault
 returns c =
-    c.check-rules.ensures ∙ ap (λ o. or_else o (rule_fault (plant_of c.args.record.now))) c.in-ok-check-ranges.ensures
+    c.check_rules.ensures ∙ ap (λ o. or_else o (rule_fault (plant_of c.args.record.now))) c.in_ok-check_ranges.ensures

@@ -16,8 +16,8 @@ returns c =
     let first = to_z-of_z w64 c.margin.result (record { sfits = c.margin.type-inv }) in
     let second = to_z-of_z w64 c.margin-2.result (record { sfits = c.margin-2.type-inv }) in
     let apart = c.margin.result -ℤ c.margin-2.result in
-    let third = to_z-of_z w64 apart (fits c.margin.result c.margin-2.result c.args.level c.args.set-point c.margin.ensures.bound c.margin-2.ensures.bound c.ranges.level.fits c.ranges.set-point.fits) in
-    let is : apart ≡ margin bs lmp c.args.level -ℤ margin bs lmp c.args.set-point = cc (c.margin.ensures.value, c.margin-2.ensures.value, same) in
+    let third = to_z-of_z w64 apart (fits c.margin.result c.margin-2.result c.args.level c.args.set_point c.margin.ensures.bound c.margin-2.ensures.bound c.ranges.level.fits c.ranges.set_point.fits) in
+    let is : apart ≡ margin bs lmp c.args.level -ℤ margin bs lmp c.args.set_point = cc (c.margin.ensures.value, c.margin-2.ensures.value, same) in
     let left : lt_z apart (pos 0) ≡ false = rw (first, second, third) at c.if-difference-lt0.false in
     rw (first, second, third)
-    (rw is (record { value = not_below (margin bs lmp c.args.level -ℤ margin bs lmp c.args.set-point) (rw is at left); bound = margin_apart bs c.requires.prices lmp c.requires.price c.args.level c.args.set-point }))
+    (rw is (record { value = not_below (margin bs lmp c.args.level -ℤ margin bs lmp c.args.set_point) (rw is at left); bound = margin_apart bs c.requires.prices lmp c.requires.price c.args.level c.args.set_point }))

@@ -7,13 +7,13 @@ pub returns-in-Some : goal.returns-in-Some
 unfolding blocks_fault
 returns-in-Some c =
     let bs = c.args.blocks.now in
-    sym (first_at (block_fault c.args.eco-max bs) 0 (length bs) c.loop-place.place _ (omega arith) (omega arith) c.loop-place.invariant (sym c.in-Some.ensures))
+    sym (first_at (block_fault c.args.eco_max bs) 0 (length bs) c.loop-place.place _ (omega arith) (omega arith) c.loop-place.invariant (sym c.in-Some.ensures))
 
 pub loop-place-preserved : goal.loop-place-preserved
-loop-place-preserved c = below_more _ _ c.loop-place.invariant (sym c.in-default.ensures)
+loop-place-preserved c = below_more _ _ c.loop-place.invariant (sym c.in_default.ensures)
 
 pub returns : goal.returns
 unfolding blocks_fault
 returns c =
     let bs = c.args.blocks.now in
-    sym (first_none (block_fault c.args.eco-max bs) 0 (length bs) (λ k l h. c.loop-place.invariant k (omega arith)))
+    sym (first_none (block_fault c.args.eco_max bs) 0 (length bs) (λ k l h. c.loop-place.invariant k (omega arith)))

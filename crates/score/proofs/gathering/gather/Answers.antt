@@ -6,15 +6,15 @@ use Rattle.score.specs.Windows.{closed}
 use Rattle.score.proofs.Gathers.{one_more, accepted, refused, ended}
 use Rattle.score.proofs.gathering.gather.Goals as goal
 
-pub returns-in-err-add : goal.returns-in-err-add
-returns-in-err-add c =
+pub returns-in_err-add : goal.returns-in_err-add
+returns-in_err-add c =
     let ps = c.args.points.now in
     let i = c.loop-point.point-index in
     let fits : SFits w32 (get_or ps i (pos 0)) = search rules in
     let p = err_from_is_err_and c.from-residual.result c.from-residual.ensures.1 in
     rw (p.1, p.2)
     (record {
-      answer = refused ps i _ c.loop-point-test.true (to_z-of_z w32 _ fits) c.loop-point.invariant.1 _ (rw c.loop-point.invariant.0 at c.in-err-add.ensures.answer);
+      answer = refused ps i _ c.loop-point-test.true (to_z-of_z w32 _ fits) c.loop-point.invariant.1 _ (rw c.loop-point.invariant.0 at c.in_err-add.ensures.answer);
       window = tt;
     })
 
@@ -24,8 +24,8 @@ loop-point-preserved c =
     let i = c.loop-point.point-index in
     let fits : SFits w32 (get_or ps i (pos 0)) = search rules in
     let here = to_z-of_z w32 (get_or ps i (pos 0)) fits in
-    let more = rw c.loop-point.invariant.0 at c.in-ok-add.ensures.gathered in
-    (more ∙ one_more ps i _ c.loop-point-test.true here, accepted ps i _ c.loop-point-test.true here c.loop-point.invariant.1 (rw c.loop-point.invariant.0 at c.in-ok-add.ensures.answer))
+    let more = rw c.loop-point.invariant.0 at c.in_ok-add.ensures.gathered in
+    (more ∙ one_more ps i _ c.loop-point-test.true here, accepted ps i _ c.loop-point-test.true here c.loop-point.invariant.1 (rw c.loop-point.invariant.0 at c.in_ok-add.ensures.answer))
 
 pub returns : goal.returns
 returns c =

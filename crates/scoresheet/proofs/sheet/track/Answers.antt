@@ -6,23 +6,23 @@ use Rattle.score.specs.Ranges.{assigned_fits, historic_fits}
 use Rattle.scoresheet.proofs.Sheets.{signal_refused, window_refused}
 use Rattle.scoresheet.proofs.sheet.track.Goals as goal
 
-pub returns-in-err-mileage : goal.returns-in-err-mileage
-returns-in-err-mileage c =
+pub returns-in_err-mileage : goal.returns-in_err-mileage
+returns-in_err-mileage c =
     let q = c.args.request.now in
     let p = err_from_is_err_and c.from-residual.result c.from-residual.ensures.1 in
     let a : assigned_fits q.assigned ≡ true = and_from _ _ (le-leb _ _ c.if-request-lt-SMALLEST-ASSIGNED.false) (le-leb _ _ c.if-request-gt-LARGEST-ASSIGNED.false) in
     let h : historic_fits q.historic ≡ true = le-leb _ _ c.if-request-gt-FULL-SCORE.false in
     let readings : c.in-Ok.readings ≡ vec_items q.readings = search rules in
     let fits : SFits w32 q.previous = search rules in
-    rw (p.1, p.2) (record { answer = signal_refused q a h _ (rw (readings, to_z-of_z w32 _ fits) at c.in-err-mileage.ensures.answer); tracked = tt })
+    rw (p.1, p.2) (record { answer = signal_refused q a h _ (rw (readings, to_z-of_z w32 _ fits) at c.in_err-mileage.ensures.answer); tracked = tt })
 
-pub returns-in-err-window : goal.returns-in-err-window
-returns-in-err-window c =
+pub returns-in_err-window : goal.returns-in_err-window
+returns-in_err-window c =
     let q = c.args.request.now in
-    let p = err_from_is_err_and c.from-residual-in-err-window.result c.from-residual-in-err-window.ensures.1 in
+    let p = err_from_is_err_and c.from-residual-in_err-window.result c.from-residual-in_err-window.ensures.1 in
     let a : assigned_fits q.assigned ≡ true = and_from _ _ (le-leb _ _ c.if-request-lt-SMALLEST-ASSIGNED.false) (le-leb _ _ c.if-request-gt-LARGEST-ASSIGNED.false) in
     let h : historic_fits q.historic ≡ true = le-leb _ _ c.if-request-gt-FULL-SCORE.false in
     let readings : c.in-Ok.readings ≡ vec_items q.readings = search rules in
     let fits : SFits w32 q.previous = search rules in
     rw (p.1, p.2)
-    (record { answer = window_refused q a h _ (rw (readings, to_z-of_z w32 _ fits) at c.in-ok-mileage.ensures.answer) (rw c.as-slice-2.ensures.value at c.in-err-window.ensures.answer); tracked = tt })
+    (record { answer = window_refused q a h _ (rw (readings, to_z-of_z w32 _ fits) at c.in_ok-mileage.ensures.answer) (rw c.as_slice-2.ensures.value at c.in_err-window.ensures.answer); tracked = tt })

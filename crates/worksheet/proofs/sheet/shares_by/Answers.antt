@@ -5,6 +5,6 @@ use Rattle.worksheet.proofs.sheet.shares_by.Goals as goal
 
 pub returns : goal.returns
 returns g c = (
-  shareable c.args.total c.args.weights.now (length c.as-mut-slice.result.now) (sym c.in-ok-divide.ensures.answer),
-  with_items_is c.in-ok-out.out c.divide.new.out (omega (arith, c.divide.auto.out, c.as-mut-slice.ensures.len)) ∙ c.in-ok-divide.ensures.after,
+  shareable c.args.total c.args.weights.now (length c.as_mut_slice.result.now) (sym c.in_ok-divide.ensures.answer),
+  with_items_is c.in_ok-out.out c.divide.new.out (omega (arith, c.divide.auto.out, c.as_mut_slice.ensures.len)) ∙ c.in_ok-divide.ensures.after,
 )
