@@ -1,4 +1,6 @@
 // Prints what both commands answer to examples, and 'status 1' where the program would end with it.
+#![tactic(auto)]
+
 use lines::{Line, read_lines};
 use reports::{Report, report_score, report_share};
 use std::alloc::AllocError;

@@ -1,4 +1,6 @@
 // The text of sheets, refusals and faults, as they are printed.
+#![tactic(auto)]
+
 mod file_text;
 mod score_table;
 mod score_text;

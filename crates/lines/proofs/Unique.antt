@@ -1,5 +1,5 @@
 -- A text has one list of words and one list of lines, so it gives one list of numbered lines.
-use Rattle.std.proofs.Common.{◌≡◌, ℕ, ◌+◌, ◌-◌, ◌<◌, ◌≤◌, ◌⊎◌, List, [], ◌∷◌, ◌++◌, length, get_or, take, drop, sym, refl, ap, ◌∙◌, subst, ⊎_elim, append-nil, arith, length-append}
+use Rattle.std.proofs.Common.{◌≡◌, ℕ, ◌+◌, ◌-◌, ◌<◌, ◌≤◌, List, [], ◌∷◌, ◌++◌, length, get_or, take, drop, sym, refl, ap, ◌∙◌, subst, ⊎_elim, append-nil, arith, length-append}
 use Rattle.std.specs.Str.Lines.{StripsCarriageReturn, IsFirstLine as FirstLine}
 use Rattle.std.specs.Char.{is_not_whitespace, is_whitespace, is_newline}
 use Rattle.std.proofs.lemmas.List.{append_cancel_right, get_or_push, length-drop, length_push, length-take-le, take-append-drop}

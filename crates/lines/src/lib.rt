@@ -1,4 +1,6 @@
 // A text as numbered lines of words.
+#![tactic(auto)]
+
 mod read;
 mod words;
 

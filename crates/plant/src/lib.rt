@@ -1,4 +1,6 @@
 // What a resource is: its record, the level that it tracks, and what regulation costs it.
+#![tactic(auto)]
+
 mod assignment;
 mod check;
 mod cost;

@@ -1,4 +1,6 @@
 // What each command prints, which is tested, and whether it failed, which is proved.
+#![tactic(auto)]
+
 mod report;
 mod score_report;
 mod share_report;

@@ -7,3 +7,4 @@ pub mod Scores
 pub mod Choices
 pub mod Laws
 pub mod Tests
+pub mod AnyLaws

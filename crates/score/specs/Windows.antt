@@ -1,5 +1,5 @@
 -- The points of a window.
-use Rattle.std.specs.Prelude.{ℕ, ◌-◌, cond, List, [], ◌∷◌, ◌++◌, length, replicate, ℤ, pos, Some, None, Option, nat_le}
+use Rattle.std.specs.Prelude.{◌-◌, cond, List, [], ◌∷◌, ◌++◌, length, replicate, ℤ, pos, Some, None, Option, nat_le}
 use Rattle.score.specs.Ranges.{point_fits}
 use Rattle.score.specs.declared.refusal.WindowRefusal.{WindowRefusal}
 use Rattle.score.specs.declared.refusal.WindowRefusal.TheVariants.{Full, PointRange}

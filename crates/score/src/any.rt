@@ -1,5 +1,6 @@
 ghost use Rattle.score.specs.Choices.{plain_rating, any_rating};
-ghost use Rattle.score.specs.Laws.{plain_bounded, plain_outside, plain_monotone, blended_bounded, blended_outside, blended_monotone};
+ghost use Rattle.score.specs.Laws.{plain_bounded, plain_outside, plain_monotone};
+ghost use Rattle.score.specs.AnyLaws.{any_bounded, any_outside, any_monotone};
 
 use crate::band::Band;
 use crate::blend::Blend;
@@ -18,11 +19,11 @@ pub enum PlainScorer {
 impl Scorer for PlainScorer {
     ghost rating = { plain_rating };
 
-    ghost bounded = { λ s a es h. plain_bounded s a es h };
+    ghost bounded = { plain_bounded };
 
-    ghost outside = { λ s a es h e. plain_outside s a es h e };
+    ghost outside = { plain_outside };
 
-    ghost monotone = { λ s a es fs h p. plain_monotone s a es fs h p };
+    ghost monotone = { plain_monotone };
 
     fn score(&self, assigned: u32, errors: &[u64], historic: u32) -> u32 {
         match self {
@@ -43,20 +44,11 @@ pub enum AnyScorer {
 impl Scorer for AnyScorer {
     ghost rating = { any_rating };
 
-    ghost bounded = { elim [
-      | any.Plain s ↦ λ a es h. plain_bounded s a es h
-      | any.Blend b ↦ λ a es h. blended_bounded b.weight _ _ (plain_bounded b.first a es h) (plain_bounded b.second a es h)
-    ] };
+    ghost bounded = { any_bounded };
 
-    ghost outside = { elim [
-      | any.Plain s ↦ λ a es h e. plain_outside s a es h e
-      | any.Blend b ↦ λ a es h e. blended_outside b.weight _ _ (plain_outside b.first a es h e) (plain_outside b.second a es h e)
-    ] };
+    ghost outside = { any_outside };
 
-    ghost monotone = { elim [
-      | any.Plain s ↦ λ a es fs h p. plain_monotone s a es fs h p
-      | any.Blend b ↦ λ a es fs h p. blended_monotone b.weight _ _ _ _ (plain_monotone b.first a es fs h p) (plain_monotone b.second a es fs h p)
-    ] };
+    ghost monotone = { any_monotone };
 
     fn score(&self, assigned: u32, errors: &[u64], historic: u32) -> u32 {
         match self {

@@ -1,4 +1,6 @@
 // Following the control signal: its mileage, the points of a window, the errors against the signal, and the scorers.
+#![tactic(auto)]
+
 mod any;
 mod band;
 mod blend;

@@ -1,4 +1,6 @@
 // A score file: the lines that ask for the scores of one resource in one interval.
+#![tactic(auto)]
+
 mod check;
 mod fault;
 mod form;

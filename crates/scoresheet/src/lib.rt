@@ -1,4 +1,6 @@
 // A score worked out step by step: mileage, the largest error, and the score by each scorer.
+#![tactic(auto)]
+
 mod refusal;
 mod sheet;
 

@@ -1,4 +1,6 @@
 // Worked examples to follow with a pencil: a total shared by both dividers.
+#![tactic(auto)]
+
 mod fault;
 mod request;
 mod sheet;

@@ -1,4 +1,6 @@
 // The program that an operator runs.
+#![tactic(auto)]
+
 mod help;
 mod input;
 mod output;

@@ -5,8 +5,8 @@ use Rattle.lines.proofs.Numbers.{passed_over, added, all_read}
 use Rattle.lines.proofs.Unique.{reads_same}
 use Rattle.lines.proofs.read.read_lines.Goals as goal
 
-pub loop-line-preserved-in-Continue·-branch-2 : goal.loop-line-preserved-in-Continue·-branch-2
-loop-line-preserved-in-Continue·-branch-2 c =
+pub loop-line-preserved-in-Continue-branch-2 : goal.loop-line-preserved-in-Continue-branch-2
+loop-line-preserved-in-Continue-branch-2 c =
     let s = c.in-Some.ensures.steps.0 in
     let before = vec_items c.loop-line.lines in
     added string_bytes c.args.text.now (lines_rest c.loop-line.line-iterator) (lines_rest c.next.new.self) c.in-Some.line.now c.loop-line.number (map worded before) (vec_items c.in_ok-words.words) c.loop-line.invariant s.0 s.2 (search rules) c.in_ok-words.ensures

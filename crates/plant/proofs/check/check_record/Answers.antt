@@ -7,7 +7,7 @@ use Rattle.plant.proofs.check.check_record.Goals as goal
 pub returns-in_err-check_ranges : goal.returns-in_err-check_ranges
 unfolding record_fault
 returns-in_err-check_ranges c =
-    let p = err_from_is_err_and c.from-residual.result c.from-residual.ensures.1 in
+    let p = err_from_is_err_and c.from_residual.result c.from_residual.ensures.1 in
     rw (p.1, p.2) (ap (λ o. or_else o (rule_fault (plant_of c.args.record.now))) c.in_err-check_ranges.ensures)
 
 pub returns : goal.returns

@@ -24,14 +24,14 @@ sum_fits z f x h l k = omega (arith, ints)
 pub overflow_add-cost : goal.overflow_add-cost
 overflow_add-cost c =
     let s = with_block c in
-    rw (c.loop-block.cost-is, to_z-of_z w64 _ (record { sfits = c.cost_at-cost.type-inv })) (sum_fits _ _ _ s.bound s.far c.ranges.level.fits)
+    rw (c.loop-block.cost-is, to_z-of_z w64 _ (record { sfits = c.cost_at-cost.type_inv })) (sum_fits _ _ _ s.bound s.far c.ranges.level.fits)
 
 pub loop-block-preserved : goal.loop-block-preserved
 loop-block-preserved c =
     let s = with_block c in
     let cost = c.loop-block.cost +ℤ c.cost_at-cost.result in
     let fits : SFits w64 cost = sum_fits cost _ _ s.bound s.far c.ranges.level.fits in
-    rw (c.loop-block.cost-is, to_z-of_z w64 c.cost_at-cost.result (record { sfits = c.cost_at-cost.type-inv }), to_z-of_z w64 cost fits) s
+    rw (c.loop-block.cost-is, to_z-of_z w64 c.cost_at-cost.result (record { sfits = c.cost_at-cost.type_inv }), to_z-of_z w64 cost fits) s
 
 pub returns : goal.returns
 returns c =

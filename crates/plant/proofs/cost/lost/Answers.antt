@@ -13,8 +13,8 @@ returns c =
     let bs = c.args.blocks.now in
     let lmp = c.args.lmp in
     let same = to_z-of_z w32 lmp c.ranges.lmp in
-    let first = to_z-of_z w64 c.margin.result (record { sfits = c.margin.type-inv }) in
-    let second = to_z-of_z w64 c.margin-2.result (record { sfits = c.margin-2.type-inv }) in
+    let first = to_z-of_z w64 c.margin.result (record { sfits = c.margin.type_inv }) in
+    let second = to_z-of_z w64 c.margin-2.result (record { sfits = c.margin-2.type_inv }) in
     let apart = c.margin.result -ℤ c.margin-2.result in
     let third = to_z-of_z w64 apart (fits c.margin.result c.margin-2.result c.args.level c.args.set_point c.margin.ensures.bound c.margin-2.ensures.bound c.ranges.level.fits c.ranges.set_point.fits) in
     let is : apart ≡ margin bs lmp c.args.level -ℤ margin bs lmp c.args.set_point = cc (c.margin.ensures.value, c.margin-2.ensures.value, same) in

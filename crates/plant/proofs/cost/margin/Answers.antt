@@ -18,10 +18,10 @@ module _ (c : goal.After-curve_cost) where
 
 pub overflow_sub-result : goal.overflow_sub-result
 overflow_sub-result c =
-    rw (to_z-of_z w64 c.cost_at.result (record { sfits = c.cost_at.type-inv }), to_z-of_z w64 c.curve_cost.result (record { sfits = c.curve_cost.type-inv }))
+    rw (to_z-of_z w64 c.cost_at.result (record { sfits = c.cost_at.type_inv }), to_z-of_z w64 c.curve_cost.result (record { sfits = c.curve_cost.type_inv }))
     (fits (c.cost_at.result -ℤ c.curve_cost.result) c.args.level (small c) c.ranges.level.fits)
 
 pub returns : goal.returns
 returns c =
-    rw (to_z-of_z w64 c.cost_at.result (record { sfits = c.cost_at.type-inv }), to_z-of_z w64 c.curve_cost.result (record { sfits = c.curve_cost.type-inv }), to_z-of_z w64 (c.cost_at.result -ℤ c.curve_cost.result) (fits (c.cost_at.result -ℤ c.curve_cost.result) c.args.level (small c) c.ranges.level.fits))
+    rw (to_z-of_z w64 c.cost_at.result (record { sfits = c.cost_at.type_inv }), to_z-of_z w64 c.curve_cost.result (record { sfits = c.curve_cost.type_inv }), to_z-of_z w64 (c.cost_at.result -ℤ c.curve_cost.result) (fits (c.cost_at.result -ℤ c.curve_cost.result) c.args.level (small c) c.ranges.level.fits))
     (record { value = rw (earned c, c.curve_cost.ensures.value); bound = small c })

@@ -19,7 +19,7 @@ loop-place-preserved c =
     let same = to_z-of_z w32 c.args.previous c.ranges.previous in
     let point_in : SFits w32 (get_or xs k (pos 0)) = search rules in
     let asked : c.asked_at-asked.result ≡ reading c.args.previous zs (5 * k) = rw same at c.asked_at-asked.ensures in
-    let asked_in = to_z-of_z w32 c.asked_at-asked.result (record { sfits = c.asked_at-asked.type-inv }) in
+    let asked_in = to_z-of_z w32 c.asked_at-asked.result (record { sfits = c.asked_at-asked.type_inv }) in
     let e : c.error_of.result ≡ error_at c.args.assigned xs c.args.previous zs k =
     rw (to_z-of_z w32 (get_or xs k (pos 0)) point_in, asked_in, asked) at c.error_of.ensures in
     let f : ℕ → ℕ = error_at c.args.assigned xs c.args.previous zs in

@@ -11,7 +11,7 @@ returns-in_err-add c =
     let ps = c.args.points.now in
     let i = c.loop-point.point-index in
     let fits : SFits w32 (get_or ps i (pos 0)) = search rules in
-    let p = err_from_is_err_and c.from-residual.result c.from-residual.ensures.1 in
+    let p = err_from_is_err_and c.from_residual.result c.from_residual.ensures.1 in
     rw (p.1, p.2)
     (record {
       answer = refused ps i _ c.loop-point-test.true (to_z-of_z w32 _ fits) c.loop-point.invariant.1 _ (rw c.loop-point.invariant.0 at c.in_err-add.ensures.answer);

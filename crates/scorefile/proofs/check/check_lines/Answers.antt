@@ -9,7 +9,7 @@ use Rattle.scorefile.proofs.check.check_lines.Goals as goal
 
 pub returns-in_err-check_words : goal.returns-in_err-check_words
 returns-in_err-check_words c =
-    let p = err_from_is_err_and c.from-residual.result c.from-residual.ensures.1 in
+    let p = err_from_is_err_and c.from_residual.result c.from_residual.ensures.1 in
     let xs = c.args.lines.now in
     let l = c.loop-place.place in
     let at : line_at (map worded xs) l ≡ worded c.index-lines-place.result = mapped_at worded xs l c.index-lines-place.result _ c.loop-place-test.true c.index-lines-place.is in

@@ -13,7 +13,7 @@ loop-word-preserved c =
     let i = c.loop-word.word-index in
     let at = mapped_at string_bytes xs i c.word-item.result [] c.loop-word-test.true c.word-item.is ∙ sym c.as_str.ensures.value in
     let h : i < length ws = omega (arith, length-map xs string_bytes) in
-    let same = to_z-of_z w32 c.signed.result (record { sfits = c.signed.type-inv }) in
+    let same = to_z-of_z w32 c.signed.result (record { sfits = c.signed.type_inv }) in
     number_more ws i c.as_str.result.now (to_z w32 (of_z w32 c.signed.result)) (vec_items c.loop-word.all) (vec_items c.push.new.self) h at c.requires (λ q. same ∙ c.signed.ensures.value q) c.loop-word.invariant c.in_ok-push.ensures.items
 
 pub returns : goal.returns

@@ -20,7 +20,7 @@ list-requires-2 c =
 pub returns : goal.returns
 returns c =
     let lines = map worded c.args.lines.now in
-    let same = to_z-of_z w32 c.signed.result (record { sfits = c.signed.type-inv }) in
+    let same = to_z-of_z w32 c.signed.result (record { sfits = c.signed.type_inv }) in
     record {
       formed = c.requires;
       assigned = read_as WholeNumber whole_of _ (line_at lines 0).words 1 _ _ c.words_at-3.ensures c.word_at.ensures c.whole.ensures.value (one_of 0 _ heading.Assigned expected.Whole refl (λ k. refl) (c.requires.0 0 (omega (arith, c.requires.1))));

@@ -9,7 +9,7 @@ returns-in_default c = lacks_all _ (ap (map string_bytes) (nil_from_length c.arg
 
 pub returns-in_err-weights : goal.returns-in_err-weights
 returns-in_err-weights c =
-    let p = err_from_is_err_and c.from-residual-in_err-weights.result c.from-residual-in_err-weights.ensures.1 in
+    let p = err_from_is_err_and c.from_residual-in_err-weights.result c.from_residual-in_err-weights.ensures.1 in
     let text = c.as_str.result.now in
     let split = texts_split string_bytes c.args.words.now c.first-item.result text (omega (arith, ltb-true, ltb-false)) c.first-item.is c.as_str.ensures.value in
     rw (p.1, p.2) (lacks_weight _ _ text _ split c.in_ok-total.ensures.0 c.in_err-weights.ensures)

@@ -6,7 +6,7 @@ use Rattle.worksheet.proofs.request.read_weights.Goals as goal
 
 pub returns-in_err-read_weight : goal.returns-in_err-read_weight
 returns-in_err-read_weight c =
-    let p = err_from_is_err_and c.from-residual.result c.from-residual.ensures.1 in
+    let p = err_from_is_err_and c.from_residual.result c.from_residual.ensures.1 in
     let xs = c.args.words.now in
     let i = c.loop-place.place in
     let at = word_at string_bytes xs i c.index-words-place.result c.as_str.result.now c.loop-place-test.true c.index-words-place.is c.as_str.ensures.value in
