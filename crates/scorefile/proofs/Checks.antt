@@ -1,10 +1,9 @@
 -- Words and lines that are checked one by one.
-use Rattle.std.proofs.Common.{◌≡◌, ℕ, ◌+◌, ◌-◌, ◌<◌, ◌≤◌, true, false, List, [], ◌∷◌, map, length, get_or, string_bytes, sym, refl, ap, ◌∙◌, subst, inl, inr, arith, below_more}
+use Rattle.std.proofs.Common.{◌≡◌, ℕ, ◌+◌, ◌<◌, ◌≤◌, List, [], map, length, get_or, sym, ap, ◌∙◌, subst, inl, arith, below_more}
 use Rattle.std.proofs.lemmas.List.{get_or-map, get_or_past, length-map}
-use Rattle.lines.specs.Reads.{Worded, worded}
-use Rattle.lines.specs.declared.read.Line.{Line}
-use Rattle.scorefile.specs.Form.{Fits, may_end, expected_at}
-use Rattle.scorefile.specs.Faults.{Begins, WellWorded, line_at, WellUpTo, WellFormed, WordFound, Stands, Unfit, Wrong, WrongWords, Ended, WrongLines}
+use Rattle.lines.specs.Reads.{Worded}
+use Rattle.scorefile.specs.Form.{Fits, expected_at}
+use Rattle.scorefile.specs.Faults.{Begins, WellWorded, line_at, WellUpTo, WordFound, Stands, Unfit, Wrong, WrongWords, WrongLines}
 use Rattle.scorefile.specs.declared.form.Expected.{Expected}
 use Rattle.scorefile.specs.declared.fault.Found.{Found}
 use Rattle.scorefile.specs.declared.fault.Found.TheVariants as found

@@ -1,5 +1,5 @@
 -- The numbers of a line.
-use Rattle.std.proofs.Common.{◌≡◌, ℕ, zero, suc, ◌+◌, ◌-◌, ◌<◌, true, false, ◌⊎◌, List, [], ◌∷◌, ◌++◌, map, length, get_or, take, drop, ℤ, Some, None, Option, sym, refl, ap, ◌∙◌, subst, inl, inr, arith}
+use Rattle.std.proofs.Common.{◌≡◌, ℕ, suc, ◌+◌, ◌-◌, ◌<◌, false, List, [], ◌∷◌, ◌++◌, map, length, get_or, take, drop, ℤ, Some, None, Option, sym, refl, ap, ◌∙◌, subst, inl, inr, arith}
 use Rattle.std.specs.List.{AllByRecursion as All}
 use Rattle.std.proofs.ByRecursion.{All-get_or, All-from_get_or}
 use Rattle.std.proofs.lemmas.List.{take_more, take_rest, map_push, get_or_past}
@@ -8,7 +8,7 @@ use Rattle.lines.specs.Reads.{Worded}
 use Rattle.score.specs.declared.any.PlainScorer.{PlainScorer}
 use Rattle.score.specs.declared.any.PlainScorer.TheVariants as plain
 use Rattle.score.specs.declared.blend.Blend.{Blend}
-use Rattle.scorefile.specs.Form.{WholeNumber, SignedNumber, signed_of, Named, NoName, Fits, may_end, one, many, expected_at}
+use Rattle.scorefile.specs.Form.{SignedNumber, signed_of, Named, Fits, may_end, one, many, expected_at}
 use Rattle.scorefile.specs.Faults.{WellWorded, line_at, WellFormed}
 use Rattle.scorefile.specs.Request.{Blends, Asked}
 use Rattle.scorefile.specs.declared.form.Heading.{Heading}

@@ -1,5 +1,5 @@
 -- Which files are of their form, and the first place of one that is not.
-use Rattle.std.specs.Prelude.{◌≡◌, ℕ, ◌-◌, ◌<◌, ◌≤◌, true, false, ◌⊎◌, List, [], ◌∷◌, length, string_bytes, slice_index_or}
+use Rattle.std.specs.Prelude.{◌≡◌, ℕ, ◌-◌, ◌<◌, ◌≤◌, true, false, ◌⊎◌, List, [], length, string_bytes, slice_index_or}
 use Rattle.lines.specs.Reads.{Worded}
 use Rattle.scorefile.specs.Form.{Fits, may_end, expected_at}
 use Rattle.scorefile.specs.declared.fault.Found.{Found}

@@ -1,5 +1,5 @@
 -- What a score file says.
-use Rattle.std.specs.Prelude.{◌≡◌, ℕ, ◌⊎◌, List, [], map, length, drop, Some, None, vec_items, Option, slice_index_or}
+use Rattle.std.specs.Prelude.{◌≡◌, ℕ, ◌⊎◌, List, [], map, drop, Some, None, vec_items, Option, slice_index_or}
 use Rattle.lines.specs.Reads.{Worded, Reads}
 use Rattle.score.specs.declared.any.PlainScorer.{PlainScorer}
 use Rattle.score.specs.declared.blend.Blend.{Blend}

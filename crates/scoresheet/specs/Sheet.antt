@@ -1,5 +1,5 @@
 -- What a score sheet says.
-use Rattle.std.specs.Prelude.{◌≡◌, ℕ, ◌+◌, List, length, ℤ, Some, None, vec_items, Option, slice_index}
+use Rattle.std.specs.Prelude.{◌≡◌, ℕ, ◌+◌, List, length, Some, None, vec_items, Option, slice_index}
 use Rattle.std.specs.List.{IsFirstMaxByKey}
 use Rattle.score.specs.Choices.{plain_rating}
 use Rattle.score.specs.Errors.{errors}

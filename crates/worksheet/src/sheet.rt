@@ -51,7 +51,7 @@ fn shares_by<D: Divider>(
     weights: &[u32],
 ) -> Result<Vec<u64>, SheetFault>
     ensures { MatchResult result
-        (λ v. Shareable total weights.now × (v.items ≡ shares divider.now total weights.now))
+        (λ v. Shareable total weights.now × (v.items ≡ D.shares divider.now total weights.now))
         (Faulted total weights.now) }
 {
     let mut out = vec![in heap; 0; weights.len()]?;
@@ -66,7 +66,7 @@ fn column_by<D: Divider>(
     weights: &[u32],
 ) -> Result<Column, SheetFault>
     ensures { MatchResult result
-        (λ c. Shareable total weights.now × (c.shares.items ≡ shares divider.now total weights.now) × (c.sum ≡ total))
+        (λ c. Shareable total weights.now × (c.shares.items ≡ D.shares divider.now total weights.now) × (c.sum ≡ total))
         (Faulted total weights.now) }
 {
     let shares = shares_by(heap, divider, total, weights)?;

@@ -1,7 +1,7 @@
-use Rattle.std.proofs.Common.{◌≡◌, ◌-◌, ◌<◌, [], map, length, get_or, string_bytes, sym, refl, ap, ◌∙◌, inl, inr, arith}
+use Rattle.std.proofs.Common.{◌≡◌, ◌-◌, ◌<◌, map, length, string_bytes, sym, refl, ap, ◌∙◌, inr, arith}
 use Rattle.std.proofs.lemmas.List.{length-map}
 use Rattle.std.proofs.lemmas.Result.{err_from_is_err_and}
-use Rattle.lines.specs.Reads.{Worded, worded}
+use Rattle.lines.specs.Reads.{worded}
 use Rattle.scorefile.specs.Form.{expected_at}
 use Rattle.scorefile.specs.Faults.{line_at}
 use Rattle.scorefile.proofs.Checks.{mapped_at, well_more, line_wrong}

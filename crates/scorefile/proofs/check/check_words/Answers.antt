@@ -1,7 +1,7 @@
-use Rattle.std.proofs.Common.{◌≡◌, ◌<◌, [], map, length, get_or, string_bytes, sym, refl, ap, ◌∙◌, subst, arith}
+use Rattle.std.proofs.Common.{◌≡◌, ◌<◌, [], map, length, string_bytes, sym, refl, ap, ◌∙◌, arith}
 use Rattle.std.proofs.lemmas.List.{length-map}
 use Rattle.std.proofs.lemmas.Bool.{false≢true}
-use Rattle.scorefile.specs.Form.{may_end, expected_at}
+use Rattle.scorefile.specs.Form.{may_end}
 use Rattle.scorefile.proofs.Checks.{mapped_at, begins_more, first_wrong}
 use Rattle.scorefile.proofs.check.check_words.Goals as goal
 

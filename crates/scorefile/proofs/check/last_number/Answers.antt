@@ -1,4 +1,4 @@
-use Rattle.std.proofs.Common.{◌≡◌, ◌-◌, ◌<◌, [], length, sym, refl, ap, arith, ltb-false, ltb-true}
+use Rattle.std.proofs.Common.{◌-◌, ◌<◌, length, sym, ap, arith, ltb-false, ltb-true}
 use Rattle.std.proofs.lemmas.List.{nil_from_length}
 use Rattle.lines.specs.Reads.{worded}
 use Rattle.scorefile.proofs.Checks.{mapped_at}

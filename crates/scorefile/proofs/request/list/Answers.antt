@@ -1,7 +1,7 @@
-use Rattle.std.proofs.Common.{◌≡◌, ◌-◌, [], map, length, take, drop, string_bytes, sym, ap, ◌∙◌, subst, arith, rules, ltb-false, ltb-true}
-use Rattle.std.proofs.lemmas.List.{nil_from_length, take_rest}
+use Rattle.std.proofs.Common.{string_bytes, ◌∙◌, subst, arith, ltb-false, ltb-true}
+use Rattle.std.proofs.lemmas.List.{nil_from_length}
 use Rattle.std.specs.List.{AllByRecursion as All}
-use Rattle.scorefile.specs.Form.{SignedNumber, signed_of}
+use Rattle.scorefile.specs.Form.{SignedNumber}
 use Rattle.scorefile.proofs.Requests.{after_heading}
 use Rattle.scorefile.proofs.request.list.Goals as goal
 

@@ -1,4 +1,4 @@
-use Rattle.std.proofs.Common.{◌≡◌, ◌<◌, map, length, drop, sym, refl, ap, ◌∙◌, subst, arith, w32}
+use Rattle.std.proofs.Common.{map, drop, sym, refl, ap, ◌∙◌, subst, arith, w32}
 use Rattle.std.proofs.lemmas.Int.{to_z-of_z}
 use Rattle.std.specs.List.{AllByRecursion as All}
 use Rattle.lines.specs.Reads.{worded}

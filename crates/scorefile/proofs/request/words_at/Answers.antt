@@ -1,4 +1,4 @@
-use Rattle.std.proofs.Common.{[], map, string_bytes, sym, ap, ◌∙◌}
+use Rattle.std.proofs.Common.{map, string_bytes, sym, ap, ◌∙◌}
 use borrow.Author.Tests.{true-ltb, false-ltb}
 use Rattle.lines.specs.Reads.{worded}
 use Rattle.scorefile.proofs.Checks.{mapped_at, mapped_past}

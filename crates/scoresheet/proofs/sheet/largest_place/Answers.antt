@@ -1,7 +1,6 @@
-use Rattle.std.proofs.Common.{◌≡◌, ℕ, ◌+◌, ◌<◌, ◌≤◌, length, get_or, sym, subst, arith}
+use Rattle.std.proofs.Common.{◌<◌, length, arith}
 use Rattle.std.proofs.lemmas.List.{get_or_default}
 use Rattle.std.proofs.lemmas.List.Sums.{best_keeps, best_takes}
-use Rattle.std.specs.List.{IsFirstMaxByKey}
 use Rattle.scoresheet.proofs.sheet.largest_place.Goals.{then-errors-place, else-errors-place}
 use Rattle.scoresheet.proofs.sheet.largest_place.Goals as goal
 

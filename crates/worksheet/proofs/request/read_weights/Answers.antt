@@ -1,4 +1,4 @@
-use Rattle.std.proofs.Common.{◌<◌, [], map, length, vec_items, string_bytes, arith}
+use Rattle.std.proofs.Common.{◌<◌, map, length, vec_items, string_bytes, arith}
 use Rattle.std.proofs.lemmas.List.{length-map}
 use Rattle.std.proofs.lemmas.Result.{err_from_is_err_and}
 use Rattle.worksheet.proofs.Reading.{word_at, read_more, first_bad}
