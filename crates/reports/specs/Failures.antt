@@ -1,5 +1,5 @@
 -- When a command fails.
-use Rattle.std.specs.Prelude.{◌≡◌, ℕ, Bool, true, false, List, ◌≢◌}
+use Rattle.std.specs.Prelude.{ℕ, Bool, true, false, List, ◌≢◌}
 use Rattle.worksheet.specs.Request.{Says, Lacks}
 use Rattle.worksheet.specs.declared.fault.RequestFault.{RequestFault}
 use Rattle.worksheet.specs.declared.fault.RequestFault.TheVariants as request
