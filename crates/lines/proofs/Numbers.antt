@@ -1,6 +1,6 @@
 -- A line more.
 use Rattle.std.proofs.Common.{◌≡◌, ℕ, ◌+◌, ◌<◌, ◌≤◌, List, [], ◌∷◌, ◌++◌, map, length, sym, refl, ap, ◌∙◌, subst, append_assoc, append-nil, arith}
-use Rattle.std.specs.Str.Lines.{IsFirstLine as FirstLine}
+use Rattle.std.specs.Str.Lines.{IsFirstLine}
 use Rattle.std.proofs.lemmas.List.{length-map, map_push}
 use Rattle.lines.specs.Reads.{Lines, Worded, kept, Numbered, Reads}
 use Rattle.lines.specs.Words.{Words, before_hash}
@@ -22,7 +22,7 @@ kept_some : (number : ℕ) (words : List (List ℕ)) → (length words ≡ 0 →
 kept_some number [] h = absurd (h refl)
 kept_some number (word ∷ words) h = refl
 
-module _ {X : Type 0} (f : X → List ℕ) (text rest next line : List ℕ) (number : ℕ) (ws : List Worded) (xs : List X) (old : Sofar text rest number ws) (some : 0 < length rest) (first : FirstLine rest line next) (falls : length next < length rest) (words : Words (before_hash line) (map f xs)) where
+module _ {X : Type 0} (f : X → List ℕ) (text rest next line : List ℕ) (number : ℕ) (ws : List Worded) (xs : List X) (old : Sofar text rest number ws) (some : 0 < length rest) (first : IsFirstLine rest line next) (falls : length next < length rest) (words : Words (before_hash line) (map f xs)) where
   one_more : Sofar text next (number + 1) (ws ++ kept (number + 1) (map f xs))
   one_more = record {
     then = λ more h.

@@ -1,6 +1,6 @@
 -- A text has one list of words and one list of lines, so it gives one list of numbered lines.
 use Rattle.std.proofs.Common.{◌≡◌, ℕ, ◌+◌, ◌-◌, ◌<◌, ◌≤◌, List, [], ◌∷◌, ◌++◌, length, get_or, take, drop, sym, refl, ap, ◌∙◌, subst, ⊎_elim, append-nil, arith, length-append}
-use Rattle.std.specs.Str.Lines.{StripsCarriageReturn, IsFirstLine as FirstLine}
+use Rattle.std.specs.Str.Lines.{StripsCarriageReturn, IsFirstLine}
 use Rattle.std.specs.Char.{is_not_whitespace, is_whitespace, is_newline}
 use Rattle.std.proofs.lemmas.List.{append_cancel_right, get_or_push, length-drop, length_push, length-take-le, take-append-drop}
 use Rattle.std.proofs.lemmas.Bool.{cases_lt}
@@ -45,7 +45,7 @@ empty_same [] [] e f = refl
 empty_same [] (y ∷ ys) e f = absurd (omega arith)
 empty_same (x ∷ xs) ys e f = absurd (omega arith)
 
-module _ (text line rest other more : List ℕ) (h : FirstLine text line rest) (k : FirstLine text other more) where
+module _ (text line rest other more : List ℕ) (h : IsFirstLine text line rest) (k : IsFirstLine text other more) where
   cut : (take h.0 text ≡ take k.0 text) × (drop h.0 text ≡ drop k.0 text)
   cut =
       front_same is_newline (take h.0 text) (take k.0 text) (drop h.0 text) (drop k.0 text) h.1 k.1 (opens_stops is_newline (drop h.0 text) rest h.2) (opens_stops is_newline (drop k.0 text) more k.2) (take-append-drop h.0 text ∙ sym (take-append-drop k.0 text))

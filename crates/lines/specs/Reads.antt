@@ -1,13 +1,13 @@
 -- The numbered lines of a text that have words.
 use Rattle.std.specs.Prelude.{◌≡◌, ℕ, ◌+◌, ◌<◌, List, [], ◌∷◌, ◌++◌, map, length, vec_items, string_bytes}
-use Rattle.std.specs.Str.Lines.{IsFirstLine as FirstLine}
+use Rattle.std.specs.Str.Lines.{IsFirstLine}
 use Rattle.lines.specs.declared.read.Line.{Line}
 use Rattle.lines.specs.Words.{before_hash, Words}
 
 -- the lines of the text, without their line ends
 abbrev pub Lines : List ℕ → List (List ℕ) → Type 0
 Lines text [] = text ≡ []
-Lines text (line ∷ lines) = (rest : List ℕ) × (0 < length text) × FirstLine text line rest × Lines rest lines
+Lines text (line ∷ lines) = (rest : List ℕ) × (0 < length text) × IsFirstLine text line rest × Lines rest lines
 
 -- the number of a line and its words
 pub record Worded : Type 0 where

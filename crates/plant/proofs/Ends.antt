@@ -1,5 +1,5 @@
 -- The last block priced at most a price.
-use Rattle.std.proofs.Common.{◌≡◌, ℕ, ◌+◌, ◌<◌, ◌≤◌, cond, List, length, drop, ℤ, sym, ap, ◌∙◌}
+use Rattle.std.proofs.Common.{◌≡◌, ℕ, ◌+◌, ◌<◌, cond, List, length, drop, ℤ, sym, ap, ◌∙◌}
 use lib.Signed.{le_z}
 use Rattle.std.proofs.lemmas.List.{at_drop_more}
 use Rattle.plant.specs.Levels.{last_end}

@@ -1,5 +1,5 @@
 -- The cost of a stretch of a curve, and a curve's cost block by block.
-use Rattle.std.proofs.Common.{◌≡◌, ℕ, zero, suc, ◌+◌, ◌-◌, ◌*◌, ◌<◌, ◌≤◌, min, max, true, false, leb, ◌⊎◌, List, [], ◌∷◌, length, get_or, drop, ℤ, pos, negsuc, ◌+ℤ◌, ◌-ℤ◌, ◌*ℤ◌, neg_ℤ, nat_abs, sym, refl, ap, ◌∙◌, subst, inl, inr, add-zero, add_assoc, add-suc, mul_comm, add-mul, zero-add, arith}
+use Rattle.std.proofs.Common.{◌≡◌, ℕ, zero, suc, ◌+◌, ◌-◌, ◌*◌, ◌<◌, ◌≤◌, min, max, true, false, leb, List, [], ◌∷◌, length, drop, ℤ, pos, negsuc, ◌+ℤ◌, ◌-ℤ◌, ◌*ℤ◌, neg_ℤ, nat_abs, sym, refl, ap, ◌∙◌, inl, inr, add-zero, add_assoc, add-suc, mul_comm, add-mul, zero-add, arith}
 use native.Mathlib.Nat.{sub-zero}
 use lib.IntN.{neg_ℤ-+ℤ, zero-*ℤ, suc_ℤ-*ℤ, +ℤ_assoc, +ℤ_idl, +ℤ_idr}
 use lib.Signed.{lt_z}

@@ -4,7 +4,6 @@ use Rattle.std.specs.List.{range_with_len}
 use Rattle.score.specs.Ranges.{every}
 use Rattle.plant.specs.Ranges.{energy_price_fits, ramp_fits, share_fits}
 use Rattle.plant.specs.Plants.{Plant}
-use Rattle.plant.specs.declared.fault.Aspect.{Aspect}
 use Rattle.plant.specs.declared.fault.Aspect.TheVariants as aspect
 use Rattle.plant.specs.declared.fault.CurveFault.{CurveFault}
 use Rattle.plant.specs.declared.fault.ResourceFault.{ResourceFault}

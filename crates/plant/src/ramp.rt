@@ -1,6 +1,6 @@
 ghost use Rattle.std.specs.Prelude.{◌≡◌, ◌-◌};
 ghost use Rattle.std.specs.Borrow.{sem, follows};
-ghost use Rattle.plant.specs.contracts.record.Ramp.{the_row as ramp-row};
+ghost use Rattle.plant.specs.contracts.record.Ramp.{the_row as ramp_row};
 ghost use Rattle.plant.specs.contracts.record.Record.{the_row};
 ghost use Rattle.plant.specs.Levels.{toward};
 
@@ -26,7 +26,7 @@ impl Drop for ReducedRamp<'_> {
 
 // Takes `by` from the ramp of a record, until what this gives is dropped; nothing is left of a smaller ramp.
 fn reduce_ramp(details: &mut Record, by: u32) -> ReducedRamp<'_>
-    ensures* follows { sem 𝓛 (follows the_row ramp-row details.entry.ghost_name result.ramp.ghost_name (λ w. record { kind = details.old.kind; limits = details.old.limits; ramp = w; owners = details.old.owners; blocks = details.old.blocks })) }
+    ensures* follows { sem 𝓛 (follows the_row ramp_row details.entry.ghost_name result.ramp.ghost_name (λ w. record { kind = details.old.kind; limits = details.old.limits; ramp = w; owners = details.old.owners; blocks = details.old.blocks })) }
     ensures left { result.ramp.now.per_interval ≡ details.old.ramp.per_interval - by }
     ensures economic { result.economic ≡ details.old.ramp }
 {

@@ -1,6 +1,6 @@
 -- The numbers of a line.
 use Rattle.std.proofs.Common.{◌≡◌, ℕ, suc, ◌+◌, ◌-◌, ◌<◌, false, List, [], ◌∷◌, ◌++◌, map, length, get_or, take, drop, ℤ, Some, None, Option, sym, refl, ap, ◌∙◌, subst, inl, inr, arith}
-use Rattle.std.specs.List.{AllByRecursion as All}
+use Rattle.std.specs.List.{AllByRecursion}
 use Rattle.std.proofs.ByRecursion.{All-get_or, All-from_get_or}
 use Rattle.std.proofs.lemmas.List.{take_more, take_rest, map_push, get_or_past}
 use Rattle.std.proofs.lemmas.Bool.{true≢false, cases_lt, ne_eqb}
@@ -16,13 +16,13 @@ use Rattle.scorefile.specs.declared.form.Expected.{Expected}
 use Rattle.scorefile.specs.declared.form.Expected.TheVariants.{More}
 
 -- one number more is read
-pub number_more : (words : List (List ℕ)) (i : ℕ) (word : List ℕ) (z : ℤ) (zs more : List ℤ) → i < length words → get_or words i [] ≡ word → All SignedNumber words → (SignedNumber word → z ≡ signed_of word) → zs ≡ map signed_of (take i words) → more ≡ zs ++ (z ∷ []) → more ≡ map signed_of (take (i + 1) words)
+pub number_more : (words : List (List ℕ)) (i : ℕ) (word : List ℕ) (z : ℤ) (zs more : List ℤ) → i < length words → get_or words i [] ≡ word → AllByRecursion SignedNumber words → (SignedNumber word → z ≡ signed_of word) → zs ≡ map signed_of (take i words) → more ≡ zs ++ (z ∷ []) → more ≡ map signed_of (take (i + 1) words)
 number_more words i word z zs more h at all read so_far pushed =
     let is : z ≡ signed_of (get_or words i []) = read (subst SignedNumber at (All-get_or SignedNumber words i [] h all)) ∙ ap signed_of (sym at) in
     pushed ∙ (λ k. so_far k ++ (is k ∷ [])) ∙ sym (map_push signed_of (take i words) (get_or words i [])) ∙ ap (map signed_of) (sym (take_more words i [] h))
 
 -- the words after the heading of a line of numbers write numbers
-pub numbers_of : (l : ℕ) (words : List (List ℕ)) → ((k : ℕ) → expected_at l (suc k) ≡ More) → WellWorded l words → All SignedNumber (drop 1 words)
+pub numbers_of : (l : ℕ) (words : List (List ℕ)) → ((k : ℕ) → expected_at l (suc k) ≡ More) → WellWorded l words → AllByRecursion SignedNumber (drop 1 words)
 numbers_of l [] more well = tt
 numbers_of l (heading ∷ words) more well =
     All-from_get_or SignedNumber words [] (λ k h. subst (λ e. Fits e (get_or words k [])) (more k) (well.0 (suc k) (omega arith)))

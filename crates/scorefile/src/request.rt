@@ -1,5 +1,5 @@
 ghost use Rattle.std.specs.Prelude.{◌≡◌, [], map, drop, pos, IfOk, string_bytes, MatchResult, slice_index_or};
-ghost use Rattle.std.specs.List.{AllByRecursion as All};
+ghost use Rattle.std.specs.List.{AllByRecursion};
 ghost use Rattle.lines.specs.Reads.{worded};
 ghost use Rattle.scorefile.specs.Faults.{line_at, WellFormed};
 ghost use Rattle.scorefile.specs.Form.{WholeNumber, whole_of, SignedNumber, signed_of};
@@ -68,7 +68,7 @@ fn signed(word: &str) -> i32
 
 // The numbers that words write.
 fn numbers(heap: Global, words: &[String]) -> Result<Vec<i32>, AllocError>
-    requires { All SignedNumber (map string_bytes words.now) }
+    requires { AllByRecursion SignedNumber (map string_bytes words.now) }
     ensures { IfOk result (λ v. v.items ≡ map signed_of (map string_bytes words.now)) }
 {
     let mut all = Vec::new(heap);
@@ -80,7 +80,7 @@ fn numbers(heap: Global, words: &[String]) -> Result<Vec<i32>, AllocError>
 
 // The numbers after the heading of a line.
 fn list(heap: Global, words: &[String]) -> Result<Vec<i32>, AllocError>
-    requires { All SignedNumber (drop 1 (map string_bytes words.now)) }
+    requires { AllByRecursion SignedNumber (drop 1 (map string_bytes words.now)) }
     ensures { IfOk result (λ v. v.items ≡ map signed_of (drop 1 (map string_bytes words.now))) }
 {
     match words {

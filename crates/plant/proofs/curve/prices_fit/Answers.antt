@@ -1,4 +1,4 @@
-use Rattle.std.proofs.Common.{◌≡◌, get_or, pos, sym, ap, ◌∙◌, w32, SFits, rules}
+use Rattle.std.proofs.Common.{sym, ap, ◌∙◌, w32, SFits, rules}
 use Rattle.std.proofs.lemmas.Int.{to_z-of_z}
 use Rattle.score.specs.Tests.{every_not, every_more, every_all}
 use Rattle.plant.specs.Ranges.{energy_price_fits}

@@ -1,5 +1,5 @@
-use Rattle.std.proofs.Common.{◌≡◌, cond, drop, sym, ◌∙◌, subst, arith, w32, SFits, rules}
-use Rattle.std.proofs.lemmas.Int.{to_z-of_z, ints}
+use Rattle.std.proofs.Common.{◌≡◌, drop, sym, ◌∙◌, subst, w32, SFits, rules}
+use Rattle.std.proofs.lemmas.Int.{to_z-of_z}
 use Rattle.std.proofs.lemmas.List.{at_drop_all}
 use Rattle.plant.specs.Levels.{last_end}
 use Rattle.plant.specs.Records.{block_at}

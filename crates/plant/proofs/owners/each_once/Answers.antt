@@ -1,4 +1,4 @@
-use Rattle.std.proofs.Common.{◌≡◌, ◌+◌, drop, sym, ap, ◌∙◌}
+use Rattle.std.proofs.Common.{◌+◌, sym, ap, ◌∙◌}
 use Rattle.std.proofs.lemmas.List.{at_drop_all, take_rest}
 use Rattle.plant.specs.Records.{owned_by, each_once}
 use Rattle.plant.proofs.Named.{again, once_more}

@@ -1,6 +1,6 @@
 use Rattle.std.proofs.Common.{map, drop, sym, refl, ap, ◌∙◌, subst, arith, w32}
 use Rattle.std.proofs.lemmas.Int.{to_z-of_z}
-use Rattle.std.specs.List.{AllByRecursion as All}
+use Rattle.std.specs.List.{AllByRecursion}
 use Rattle.lines.specs.Reads.{worded}
 use Rattle.scorefile.specs.Form.{WholeNumber, whole_of, SignedNumber, signed_of}
 use Rattle.scorefile.specs.Faults.{line_at}
@@ -11,11 +11,11 @@ use Rattle.scorefile.proofs.request.request_of.Goals as goal
 
 pub list-requires : goal.list-requires
 list-requires c =
-    subst (λ ws. All SignedNumber (drop 1 ws)) (sym c.words_at.ensures) (numbers_of 3 _ (many_more heading.Signal) (c.requires.0 3 (omega (arith, c.requires.1))))
+    subst (λ ws. AllByRecursion SignedNumber (drop 1 ws)) (sym c.words_at.ensures) (numbers_of 3 _ (many_more heading.Signal) (c.requires.0 3 (omega (arith, c.requires.1))))
 
 pub list-requires-2 : goal.list-requires-2
 list-requires-2 c =
-    subst (λ ws. All SignedNumber (drop 1 ws)) (sym c.words_at-2.ensures) (numbers_of 4 _ (many_more heading.Points) (c.requires.0 4 (omega (arith, c.requires.1))))
+    subst (λ ws. AllByRecursion SignedNumber (drop 1 ws)) (sym c.words_at-2.ensures) (numbers_of 4 _ (many_more heading.Points) (c.requires.0 4 (omega (arith, c.requires.1))))
 
 pub returns : goal.returns
 returns c =
