@@ -9,6 +9,7 @@ use help::{show_help, wrong_command, wrong_words};
 use input::read_input;
 use output::{out_of_memory, show};
 use reports::{report_score, report_share};
+use std::process::ExitCode;
 use std::{env, io};
 
 // What ends the program with status 1.
@@ -54,10 +55,13 @@ fn run(rt: &HostRuntime) -> Result<(), Failed> {
     }
 }
 
-fn main(rt: HostRuntime) -> Result<(), Failed> {
-    let ended = run(&rt);
-    if let Err(Failed::Io(e)) = &ended {
-        let _ = eprintln!(rt; "zankevell: {e}");
+fn main(rt: HostRuntime) -> ExitCode {
+    match run(&rt) {
+        Ok(()) => ExitCode::SUCCESS,
+        Err(Failed::Told) => ExitCode::FAILURE,
+        Err(Failed::Io(e)) => {
+            let _ = eprintln!(rt; "zankevell: {e}");
+            ExitCode::FAILURE
+        }
     }
-    ended
 }
