@@ -1,5 +1,5 @@
 -- What is known where no refusal applies.
-use Rattle.std.specs.Prelude.{◌≡◌, ℕ, ◌*◌, ◌<◌, ◌≤◌, List, length, sum, slice_index}
+use Rattle.std.specs.Prelude.{◌≡◌, ℕ, ◌*◌, ◌<◌, ◌≤◌, List, length, sum, None, slice_index}
 use Rattle.std.proofs.Common.{subst, arith}
 use Rattle.std.proofs.lemmas.List.{ext_get_or}
 use Rattle.std.proofs.lemmas.Bool.Decides.{nat_tests}
@@ -12,7 +12,7 @@ pub record Admitted (t : ℕ) (ws : List ℕ) (places : ℕ) : Type 0 where
   pub some : sum ws ≡ 0 → t ≡ 0
   pub small : t * sum ws ≤ largest_product
 
-pub admitted : (t : ℕ) (ws : List ℕ) (places : ℕ) → refusal t ws places ≡ 0 → Admitted t ws places
+pub admitted : (t : ℕ) (ws : List ℕ) (places : ℕ) → refusal t ws places ≡ None → Admitted t ws places
 admitted t ws places h = record {
   few = grind (arith, nat_tests);
   long = grind (arith, nat_tests);
@@ -20,8 +20,8 @@ admitted t ws places h = record {
   small = grind (arith, nat_tests);
 }
 
-pub shareable : (t : ℕ) (ws : List ℕ) (places : ℕ) → refusal t ws places ≡ 0 → Shareable t ws
-shareable t ws places h = subst (λ (n : ℕ). refusal t ws n ≡ 0) (admitted t ws places h).long h
+pub shareable : (t : ℕ) (ws : List ℕ) (places : ℕ) → refusal t ws places ≡ None → Shareable t ws
+shareable t ws places h = subst (λ (n : ℕ). refusal t ws n ≡ None) (admitted t ws places h).long h
 
 -- where the weights add up to 0, noughts at every place are any exact division's shares
 pub noughts : (t : ℕ) (ws out shares : List ℕ) → length out ≡ length ws → ((k : ℕ) → k < length out → slice_index out k ≡ 0) → sum ws ≡ 0 → Exact t ws shares → out ≡ shares

@@ -1,9 +1,6 @@
 -- What every exact division keeps.
-use Rattle.std.specs.Prelude.{◌≡◌, ℕ, ◌+◌, ◌-◌, ◌*◌, ◌<◌, List, length, sum, slice_index}
-
--- how far apart two numbers are: subtraction stops at 0, so at least one of the two differences is 0
-abbrev pub distance : ℕ → ℕ → ℕ
-distance a b = (a - b) + (b - a)
+use Rattle.std.specs.Prelude.{◌≡◌, ℕ, ◌*◌, ◌<◌, List, length, sum, slice_index}
+use Rattle.std.specs.Int.{abs_diff}
 
 -- the total t is shared among the weights ws, whose sum is W
 pub record Exact (t : ℕ) (ws shares : List ℕ) : Type 0 where
@@ -13,6 +10,6 @@ pub record Exact (t : ℕ) (ws shares : List ℕ) : Type 0 where
   pub whole : sum shares ≡ t
   -- where W is above 0, share × W is less than W away from t × w at each place: each share is less than one
   -- unit from its exact proportion t × w / W
-  pub near : 0 < sum ws → (k : ℕ) → k < length ws → distance (slice_index shares k * sum ws) (t * slice_index ws k) < sum ws
+  pub near : 0 < sum ws → (k : ℕ) → k < length ws → abs_diff (slice_index shares k * sum ws) (t * slice_index ws k) < sum ws
   -- where W is 0, every share is 0
   pub zeros : sum ws ≡ 0 → (k : ℕ) → k < length ws → slice_index shares k ≡ 0

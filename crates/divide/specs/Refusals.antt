@@ -1,5 +1,5 @@
 -- When a total is not shared among weights, and the number of each such case.
-use Rattle.std.specs.Prelude.{◌≡◌, ℕ, ◌*◌, cond, not, ◌&&◌, ◌||◌, List, length, Ok, Err, sum, Result, ◌==◌, nat_lt}
+use Rattle.std.specs.Prelude.{◌≡◌, ℕ, ◌*◌, cond, not, ◌&&◌, ◌||◌, List, length, sum, Option, Some, None, ◌==◌, nat_lt}
 use Rattle.divide.specs.declared.refusal.DivideRefusal.{DivideRefusal}
 use Rattle.divide.specs.declared.refusal.DivideRefusal.TheVariants.{ListLength, NoWeight, ProductTooLarge}
 
@@ -9,11 +9,6 @@ number ListLength = 6
 number NoWeight = 18
 number ProductTooLarge = 19
 
--- the number of a refusal in an answer; 0, which is no refusal's number, where the answer is none
-abbrev pub answered : {X : Type 0} → Result X DivideRefusal → ℕ
-answered (Ok x) = 0
-answered (Err e) = number e
-
 -- the most weights that a total is shared among
 abbrev pub most_weights : ℕ
 most_weights = 32
@@ -22,14 +17,14 @@ most_weights = 32
 abbrev pub largest_product : ℕ
 largest_product = 4000000000000000000
 
--- the number of the first refusal that applies where the total t is to be shared among the weights ws into a
--- slice of so many places; 0 where none does
-abbrev pub refusal : ℕ → List ℕ → ℕ → ℕ
+-- the first refusal that applies where the total t is to be shared among the weights ws into a slice of so many
+-- places
+abbrev pub refusal : ℕ → List ℕ → ℕ → Option DivideRefusal
 refusal t ws places =
-    cond (nat_lt most_weights (length ws) || not (places == length ws)) (number ListLength)
-    (cond (sum ws == 0 && not (t == 0)) (number NoWeight)
-    (cond (nat_lt largest_product (t * sum ws)) (number ProductTooLarge) 0))
+    cond (nat_lt most_weights (length ws) || not (places == length ws)) (Some ListLength)
+    (cond (sum ws == 0 && not (t == 0)) (Some NoWeight)
+    (cond (nat_lt largest_product (t * sum ws)) (Some ProductTooLarge) None))
 
 -- no refusal applies, given as many places as weights
 abbrev pub Shareable : ℕ → List ℕ → Type 0
-Shareable t ws = refusal t ws (length ws) ≡ 0
+Shareable t ws = refusal t ws (length ws) ≡ None

@@ -1,18 +1,20 @@
 -- The division by largest remainders is exact.
-use Rattle.std.specs.Prelude.{◌≡◌, ℕ, zero, suc, ◌+◌, ◌*◌, ◌/◌, ◌%◌, ◌<◌, ◌≤◌, Bool, true, false, ltb, ◌⊎◌, List, [], ◌∷◌, map, length, take, sum, nat_lt, slice_index, slice_index_or, refl}
-use Rattle.std.proofs.Common.{sym, ap, subst, ◌∙◌, inl, inr, ⊎_elim, zero-mul, one-mul, mul-zero, add-mul, mul-add, mod-lt, le_of_mul-le-mul_right, arith}
+use Rattle.std.specs.Prelude.{◌≡◌, ℕ, zero, suc, ◌+◌, ◌*◌, ◌/◌, ◌%◌, ◌<◌, ◌≤◌, Bool, true, false, ltb, List, [], ◌∷◌, map, length, take, sum, nat_lt, slice_index, slice_index_or, refl}
+use Rattle.std.proofs.Common.{sym, ap, subst, ◌∙◌, ⊎_elim, zero-mul, one-mul, mul-zero, add-mul, mul-add, mod-lt, le_of_mul-le-mul_right, arith}
 use Rattle.std.proofs.Math.Nat.{div-zero}
 use Rattle.std.specs.List.{range_with_len}
 use Rattle.std.proofs.lemmas.Nat.{div-add-mod'}
 use Rattle.std.proofs.lemmas.List.FromFn.{length-map-range_with_len, get_or-map-range_with_len}
 use Rattle.std.proofs.lemmas.List.{length-map, get_or-map, get_or_past}
-use Rattle.std.proofs.lemmas.Bool.{cases_lt, cases_Bool, cond-true, cond-false, ltb-true}
+use Rattle.std.proofs.lemmas.List.Sums.{sum_by-cons}
+use Rattle.std.proofs.lemmas.Bool.{cases_lt, ltb-true}
 use Rattle.std.proofs.lemmas.Bool.Decides.{nat_tests}
+use Rattle.std.specs.Int.{abs_diff}
 use Rattle.divide.specs.Refusals.{Shareable}
-use Rattle.divide.specs.Exact.{Exact, distance}
+use Rattle.divide.specs.Exact.{Exact}
 use Rattle.divide.specs.Remainders.{floors, rests, spare, before, how_many, rank, remainders}
 use Rattle.divide.specs.Admitted.{admitted}
-use Rattle.divide.specs.Sums.{sum-cons, prefix_suc, prefix_all, sum_more}
+use Rattle.divide.specs.Sums.{prefix_suc, prefix_all, sum_more}
 use Rattle.divide.specs.Ranks.{one, how_many_le, how_many_up, chosen}
 
 -- parts and units, summed apart
@@ -25,9 +27,9 @@ accounts : (t m : ℕ) (ws : List ℕ) → sum (map (λ w. t * w / m) ws) * m + 
 accounts t m [] = omega (arith, zero-mul m, mul-zero t)
 accounts t m (w ∷ ws) =
     let fs = sum (map (λ v. t * v / m) ws) in
-    let head = ap (λ n. n * m) (sum-cons (t * w / m) (map (λ v. t * v / m) ws)) ∙ add-mul (t * w / m) fs m in
-    let whole = ap (λ n. t * n) (sum-cons w ws) ∙ mul-add t w (sum ws) in
-    omega (arith, head, whole, sum-cons (t * w % m) (map (λ v. t * v % m) ws), accounts t m ws, div-add-mod' (t * w) m)
+    let head = ap (λ n. n * m) (sum_by-cons (λ y. y) (t * w / m) (map (λ v. t * v / m) ws)) ∙ add-mul (t * w / m) fs m in
+    let whole = ap (λ n. t * n) (sum_by-cons (λ y. y) w ws) ∙ mul-add t w (sum ws) in
+    omega (arith, head, whole, sum_by-cons (λ y. y) (t * w % m) (map (λ v. t * v % m) ws), accounts t m ws, div-add-mod' (t * w) m)
 
 -- the sum of remainders below m is less than m for each place that has one
 rests_le : (rs : List ℕ) (m : ℕ) → ((k : ℕ) → slice_index rs k < m) → (n : ℕ) → n ≤ length rs → sum (take n rs) ≤ how_many (λ k. ltb 0 (slice_index rs k)) n * m
@@ -37,21 +39,15 @@ rests_le rs m below (suc n) h =
     let ih = rests_le rs m below n (omega arith) in
     let b = below n in
     let s = prefix_suc rs n h in
-    ⊎_elim
-    (λ (some : 0 < slice_index rs n).
-    let e : one (nat_lt 0 (slice_index rs n)) ≡ 1 = grind (arith, nat_tests) in
-    let f : one (nat_lt 0 (slice_index rs n)) * m ≡ m = ap (λ k. k * m) e ∙ one-mul m in
-    omega arith)
-    (λ (none : slice_index_or rs n 0 ≤ 0). omega arith)
-    (cases_lt 0 (slice_index rs n))
+    grind (arith, nat_tests)
 
-near_share : (f r m w b : ℕ) → f * m + r ≡ w → r < m → (b ≡ 0) ⊎ ((b ≡ 1) × (0 < r)) → distance ((f + b) * m) w < m
-near_share f r m w b e l cases =
-    let split = add-mul f b m in
-    ⊎_elim
-    (λ (z : b ≡ 0). let g : b * m ≡ 0 = ap (λ k. k * m) z ∙ zero-mul m in omega arith)
-    (λ (o : (b ≡ 1) × (0 < r)). let g : b * m ≡ m = ap (λ k. k * m) o.0 ∙ one-mul m in omega arith)
-    cases
+near_share : (f r m w : ℕ) (b : Bool) → f * m + r ≡ w → r < m → (b ≡ true → 0 < r) → abs_diff ((f + one b) * m) w < m
+near_share f r m w true e l h = omega (arith, add-mul f 1 m, one-mul m, h refl)
+near_share f r m w false e l h = omega arith
+
+all_zero : (xs : List ℕ) → ((k : ℕ) → k < length xs → slice_index xs k ≡ 0) → (n : ℕ) → n ≤ length xs → sum (take n xs) ≡ 0
+all_zero xs z zero h = refl
+all_zero xs z (suc n) h = omega (arith, all_zero xs z n (omega arith), prefix_suc xs n h, z n h)
 
 module _ (t : ℕ) (ws : List ℕ) where
   -- whether place k has one of the units left over
@@ -80,19 +76,26 @@ module _ (t : ℕ) (ws : List ℕ) where
       (λ (h : length ws ≤ k). omega (arith, get_or_past (rests t ws) k 0 (omega (arith, rests_each))))
       (cases_lt k (length ws))
 
+  floor_none : sum ws ≡ 0 → (k : ℕ) → k < length ws → slice_index (floors t ws) k ≡ 0
+  floor_none none k h = floors_at k h ∙ ap (λ n. t * slice_index ws k / n) none ∙ div-zero (t * slice_index ws k)
+
+  -- the rounded parts add up to the total at most
+  pub floors_le : sum (floors t ws) ≤ t
+  floors_le =
+      ⊎_elim
+      (λ (pos : 0 < sum ws). let all = accounts t (sum ws) ws in le_of_mul-le-mul_right {k = sum ws} (omega arith) pos)
+      (λ (h : sum ws ≤ 0). omega (arith, all_zero (floors t ws) (λ k l. floor_none (omega arith) k (omega (arith, floors_each))) (length (floors t ws)) (omega arith), prefix_all (floors t ws)))
+      (cases_lt 0 (sum ws))
+
   -- no more units are left over than there are remainders
-  pub spare_le_uneven : 0 < sum ws → (sum (floors t ws) ≤ t) × (spare t ws ≤ uneven)
+  pub spare_le_uneven : 0 < sum ws → spare t ws ≤ uneven
   spare_le_uneven pos =
       let all = accounts t (sum ws) ws in
       let left = rests_le (rests t ws) (sum ws) (rests_below pos) (length (rests t ws)) (omega arith) in
       let sums = prefix_all (rests t ws) in
       let split = add-mul (sum (floors t ws)) uneven (sum ws) in
-      let low : sum (floors t ws) ≤ t = le_of_mul-le-mul_right {k = sum ws} (omega arith) pos in
       let high : t ≤ sum (floors t ws) + uneven = le_of_mul-le-mul_right {k = sum ws} (omega arith) pos in
-      (low, omega arith)
-
-  floor_none : sum ws ≡ 0 → (k : ℕ) → k < length ws → slice_index (floors t ws) k ≡ 0
-  floor_none none k h = floors_at k h ∙ ap (λ n. t * slice_index ws k / n) none ∙ div-zero (t * slice_index ws k)
+      omega arith
 
   pub remainders_each : length (remainders t ws) ≡ length ws
   remainders_each = length-map-range_with_len (λ k. slice_index (floors t ws) k + one (unit k)) 0 (length (floors t ws)) ∙ floors_each
@@ -118,35 +121,27 @@ module _ (t : ℕ) (ws : List ℕ) where
       absurd (omega arith))
       (cases_lt 0 (slice_index (rests t ws) k))
 
-  remainders_near : 0 < sum ws → (k : ℕ) → k < length ws → distance (slice_index (remainders t ws) k * sum ws) (t * slice_index ws k) < sum ws
+  remainders_near : 0 < sum ws → (k : ℕ) → k < length ws → abs_diff (slice_index (remainders t ws) k * sum ws) (t * slice_index ws k) < sum ws
   remainders_near pos k h =
-      let P : ℕ → Type 0 = λ n. distance (n * sum ws) (t * slice_index ws k) < sum ws in
+      let P : ℕ → Type 0 = λ n. abs_diff (n * sum ws) (t * slice_index ws k) < sum ws in
       let split : slice_index_or (floors t ws) k 0 * sum ws + slice_index (rests t ws) k ≡ t * slice_index_or ws k 0 =
       ap (λ n. n * sum ws + slice_index (rests t ws) k) (floors_at k h) ∙ ap (λ n. t * slice_index ws k / sum ws * sum ws + n) (rests_at k h) ∙ div-add-mod' (t * slice_index ws k) (sum ws) in
       subst P (sym (remainders_at k h))
-      (near_share (slice_index (floors t ws) k) (slice_index (rests t ws) k) (sum ws) (t * slice_index ws k) (one (unit k)) split (rests_below pos k)
-      (⊎_elim
-      (λ (e : unit k ≡ true). inr (cond-true (unit k) 1 0 e, unit_rest pos k e))
-      (λ (e : unit k ≡ false). inl (cond-false (unit k) 1 0 e))
-      (cases_Bool (unit k))))
+      (near_share (slice_index (floors t ws) k) (slice_index (rests t ws) k) (sum ws) (t * slice_index ws k) (unit k) split (rests_below pos k) (unit_rest pos k))
 
-all_zero : (xs : List ℕ) → ((k : ℕ) → k < length xs → slice_index xs k ≡ 0) → (n : ℕ) → n ≤ length xs → sum (take n xs) ≡ 0
-all_zero xs z zero h = refl
-all_zero xs z (suc n) h = omega (arith, all_zero xs z n (omega arith), prefix_suc xs n h, z n h)
+  -- there is a place for each unit that is left over
+  spare_le : Shareable t ws → spare t ws ≤ length (rests t ws)
+  spare_le fine =
+      ⊎_elim
+      (λ (pos : 0 < sum ws). omega (arith, spare_le_uneven pos, how_many_le (λ k. ltb 0 (slice_index (rests t ws) k)) (length (rests t ws))))
+      (λ (h : sum ws ≤ 0). omega (arith, (admitted t ws (length ws) fine).some (omega arith)))
+      (cases_lt 0 (sum ws))
 
-remainders_whole : (t : ℕ) (ws : List ℕ) → Shareable t ws → sum (remainders t ws) ≡ t
-remainders_whole t ws fine =
-    ⊎_elim
-    (λ (pos : 0 < sum ws).
-    let le = spare_le_uneven t ws pos in
-    let same = ap (how_many (unit t ws)) (floors_each t ws ∙ sym (rests_each t ws)) in
-    let units = chosen (rests t ws) (length (rests t ws)) (spare t ws) (omega (arith, how_many_le (λ k. ltb 0 (slice_index (rests t ws) k)) (length (rests t ws)))) in
-    omega (arith, sum_parts (floors t ws) (unit t ws) (length (floors t ws)) (omega arith), prefix_all (floors t ws)))
-    (λ (h : sum ws ≤ 0).
-    let none : sum ws ≡ 0 = omega arith in
-    let is : t ≡ 0 = (admitted t ws (length ws) fine).some none in
-    omega (arith, all_zero (remainders t ws) (λ k l. remainders_zeros t ws fine none k (omega (arith, remainders_each t ws))) (length (remainders t ws)) (omega arith), prefix_all (remainders t ws)))
-    (cases_lt 0 (sum ws))
+  remainders_whole : Shareable t ws → sum (remainders t ws) ≡ t
+  remainders_whole fine =
+      let same = ap (how_many unit) (floors_each ∙ sym rests_each) in
+      let units = chosen (rests t ws) (length (rests t ws)) (spare t ws) (spare_le fine) in
+      omega (arith, floors_le, sum_parts (floors t ws) unit (length (floors t ws)) (omega arith), prefix_all (floors t ws))
 
 pub remainders_exact : (t : ℕ) (ws : List ℕ) → Shareable t ws → Exact t ws (remainders t ws)
 remainders_exact t ws fine = record { each = remainders_each t ws; whole = remainders_whole t ws fine; near = remainders_near t ws; zeros = remainders_zeros t ws fine }

@@ -5,8 +5,9 @@ use Rattle.std.proofs.Math.Nat.{zero-div, div-zero, mul-sub, lt-div-mul-add}
 use Rattle.std.proofs.lemmas.List.FromFn.{length-map-range_with_len, get_or-map-range_with_len}
 use Rattle.std.proofs.lemmas.List.{take_all}
 use Rattle.std.proofs.lemmas.Bool.{cases_lt}
+use Rattle.std.specs.Int.{abs_diff}
 use Rattle.divide.specs.Refusals.{Shareable}
-use Rattle.divide.specs.Exact.{Exact, distance}
+use Rattle.divide.specs.Exact.{Exact}
 use Rattle.divide.specs.Running.{reached, step, running}
 use Rattle.divide.specs.Sums.{div_mono, prefix_more, prefix_up, telescopes}
 use Rattle.divide.specs.Admitted.{admitted}
@@ -46,7 +47,7 @@ module _ (t : ℕ) (ws : List ℕ) where
   running_zeros none k h = omega (arith, running_at k h, reached_zero none (k + 1))
 
 -- the difference of the quotients of two products that are w apart
-near_from : (a b m w : ℕ) → 0 < m → b ≡ a + w → a / m ≤ b / m → distance ((b / m - a / m) * m) w < m
+near_from : (a b m w : ℕ) → 0 < m → b ≡ a + w → a / m ≤ b / m → abs_diff ((b / m - a / m) * m) w < m
 near_from a b m w pos e up =
     let cut : (b / m - a / m) * m ≡ b / m * m - a / m * m = mul_comm (b / m - a / m) m ∙ mul-sub m (b / m) (a / m) ∙ omega (arith, mul_comm m (b / m), mul_comm m (a / m)) in
     let la = div-mul-le_self a m in
@@ -55,10 +56,10 @@ near_from a b m w pos e up =
     let ub : b < b / m * m + m = lt-div-mul-add pos in
     omega arith
 
-running_near : (t : ℕ) (ws : List ℕ) → 0 < sum ws → (k : ℕ) → k < length ws → distance (slice_index (running t ws) k * sum ws) (t * slice_index ws k) < sum ws
+running_near : (t : ℕ) (ws : List ℕ) → 0 < sum ws → (k : ℕ) → k < length ws → abs_diff (slice_index (running t ws) k * sum ws) (t * slice_index ws k) < sum ws
 running_near t ws pos k h =
     let e : t * sum (take (k + 1) ws) ≡ t * sum (take k ws) + t * slice_index_or ws k 0 = ap (λ n. t * n) (prefix_more ws k h) ∙ mul-add t (sum (take k ws)) (slice_index ws k) in
-    let P : ℕ → Type 0 = λ n. distance (n * sum ws) (t * slice_index ws k) < sum ws in
+    let P : ℕ → Type 0 = λ n. abs_diff (n * sum ws) (t * slice_index ws k) < sum ws in
     subst P (sym (running_at t ws k h)) (near_from (t * sum (take k ws)) (t * sum (take (k + 1) ws)) (sum ws) (t * slice_index ws k) pos e (reached_up t ws k))
 
 pub running_exact : (t : ℕ) (ws : List ℕ) → Shareable t ws → Exact t ws (running t ws)

@@ -1,5 +1,6 @@
 ghost use Rattle.std.specs.Prelude.{◌≡◌, ℕ, List, length, is_ok, if◌then◌else◌};
-ghost use Rattle.divide.specs.Refusals.{answered, refusal, Shareable};
+ghost use Rattle.std.specs.Result.{result_err};
+ghost use Rattle.divide.specs.Refusals.{refusal, Shareable};
 ghost use Rattle.divide.specs.Exact.{Exact};
 
 use crate::refusal::DivideRefusal;
@@ -11,7 +12,7 @@ pub trait Divider {
 
     // Writes the shares into `out`, or refuses and leaves `out` as it was.
     fn divide(&self, total: u64, weights: &[u32], out: &mut [u64]) -> Result<(), DivideRefusal>
-        ensures answer { answered result ≡ refusal total weights.now (length out.old) }
+        ensures answer { result_err result ≡ refusal total weights.now (length out.old) }
         ensures after { out.new ≡ (if is_ok result then shares self.now total weights.now else out.old) };
 
     // Where no refusal applies, the shares are exact: one each, adding up to the total, each less than one

@@ -1,31 +1,27 @@
-ghost use Rattle.std.specs.Prelude.{◌≡◌, ◌*◌, ◌^◌, ◌<◌, length, sum};
+ghost use Rattle.std.specs.Prelude.{◌≡◌, length};
 ghost use Rattle.divide.specs.Running.{running};
 ghost use Rattle.divide.specs.Runs.{running_exact};
 
-use crate::admit::admit;
 use crate::divider::Divider;
-use crate::places::{clear, part_of};
 use crate::refusal::DivideRefusal;
+use crate::sharing::Sharing;
 
 // Each share is what the weights up to and with its place come to, rounded down, less the same for the place
 // before.
 #[derive(Clone, Copy)]
 pub struct Running;
 
-// Writes the running shares, where the weights add up to `all` and that is above 0.
-fn fill_running(total: u64, all: u64, weights: &[u32], out: &mut [u64])
-    requires long { length out.old ≡ length weights.now }
-    requires whole { all ≡ sum weights.now }
-    requires some { 0 < all }
-    requires small { total * all < 2 ^ 63 }
-    ensures { out.new ≡ running total weights.now }
+// Writes the running shares.
+fn fill_running(sharing: &Sharing, out: &mut [u64])
+    requires { length out.old ≡ length sharing.now.weights.now }
+    ensures { out.new ≡ running sharing.now.total sharing.now.weights.now }
 {
     let mut weight_so_far = 0;
     let mut given = 0;
-    for (place, weight) in weights.iter().enumerate() {
-        weight_so_far += u64::from(*weight);
-        let reached = part_of(total, weight_so_far, all);
-        out[place] = reached - given;
+    for (place, share) in out.iter_mut().enumerate() {
+        weight_so_far += u64::from(sharing.weights[place]);
+        let reached = sharing.part(weight_so_far);
+        *share = reached - given;
         given = reached;
     }
 }
@@ -36,12 +32,8 @@ impl Divider for Running {
     ghost exact = { λ d t ws fine. running_exact t ws fine };
 
     fn divide(&self, total: u64, weights: &[u32], out: &mut [u64]) -> Result<(), DivideRefusal> {
-        let all = admit(total, weights, out.len())?;
-        if all == 0 {
-            clear(out);
-        } else {
-            fill_running(total, all, weights, out);
-        }
+        let sharing = Sharing::new(total, weights, out.len())?;
+        fill_running(&sharing, out);
         Ok(())
     }
 }

@@ -2,18 +2,16 @@
 #![tactic(auto)]
 
 use lines::{Line, read_lines};
-use reports::{Report, report_score, report_share};
-use std::alloc::AllocError;
+use reports::{report_score, report_share};
+use scorefile::FileFault;
+use std::fmt::Display;
 use std::{env, fs, io};
+use worksheet::RequestFault;
 
-fn show(rt: &HostRuntime, report: Result<Report, AllocError>) -> io::Result<()> {
-    let Ok(report) = report else {
-        return println!(rt; "out of memory");
-    };
-    let text = report.text.as_str();
-    print!(rt; "{text}")?;
-    if report.failed {
-        println!(rt; "status 1")?;
+fn show<F: Display + Drop>(rt: &HostRuntime, report: Result<String, F>) -> io::Result<()> {
+    match report {
+        Ok(text) => print!(rt; "{text}")?,
+        Err(fault) => println!(rt; "{fault}\nstatus 1")?,
     }
     println!(rt; "")
 }
@@ -24,7 +22,10 @@ fn share(rt: &HostRuntime, line: &Line) -> io::Result<()> {
         print!(rt; " {word}")?;
     }
     println!(rt; "")?;
-    show(rt, report_share(rt.alloc(), line.words.as_slice()))
+    match report_share(rt.alloc(), line.words.as_slice()) {
+        Err(RequestFault::NoMemory) => println!(rt; "out of memory"),
+        report => show(rt, report),
+    }
 }
 
 // Shares what each line of a file says.
@@ -42,7 +43,10 @@ fn share_all(rt: &HostRuntime, name: &str) -> io::Result<()> {
 fn score(rt: &HostRuntime, name: &str) -> io::Result<()> {
     println!(rt; "score {name}")?;
     let text = fs::read_to_string(rt, name)?;
-    show(rt, report_score(rt.alloc(), text.as_str()))
+    match report_score(rt.alloc(), text.as_str()) {
+        Err(FileFault::NoMemory) => println!(rt; "out of memory"),
+        report => show(rt, report),
+    }
 }
 
 fn main(rt: HostRuntime) -> io::Result<()> {

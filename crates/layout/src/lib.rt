@@ -1,14 +1,10 @@
-// The text of sheets, refusals and faults, as they are printed.
+// The text of tables and refusals, as they are printed.
 #![tactic(auto)]
 
-mod file_text;
+mod refusal_text;
 mod score_table;
-mod score_text;
 mod share_table;
-mod share_text;
 
-pub use file_text::FileFaultText;
+pub use refusal_text::RefusalText;
 pub use score_table::ScoreTable;
-pub use score_text::ScoreRefusalText;
 pub use share_table::ShareTable;
-pub use share_text::{DivideRefusalText, RequestFaultText};

@@ -3,22 +3,13 @@ use scorefile::ScoreRequest;
 use scoresheet::ScoreSheet;
 use std::fmt;
 
-fn name(scorer: PlainScorer) -> &'static str {
-    match scorer {
-        PlainScorer::Precision => "precision",
-        PlainScorer::Band => "band",
-        PlainScorer::Historic => "historic",
-    }
-}
-
 // The score by a blend, with the weights as they count.
 fn write_blend<W: fmt::Write>(
     f: &mut fmt::Formatter<W>,
     blend: Blend<PlainScorer, PlainScorer>,
     score: u32,
 ) -> fmt::Result {
-    let first = name(blend.first);
-    let second = name(blend.second);
+    let Blend { first, second, .. } = blend;
     let weight = blend.weight.min(FULL_SCORE);
     let rest = FULL_SCORE - weight;
     writeln!(
@@ -36,21 +27,26 @@ pub struct ScoreTable<'a> {
 
 impl fmt::Display for ScoreTable<'_> {
     fn fmt<W: fmt::Write>(&self, f: &mut fmt::Formatter<W>) -> fmt::Result {
-        let sheet = self.sheet;
-        let mileage = sheet.mileage;
-        let last = sheet.last;
-        let error = sheet.largest.error;
-        let point = sheet.largest.point;
-        let precision = sheet.precision;
-        let band = sheet.band;
-        let historic = sheet.historic;
+        let ScoreSheet {
+            mileage,
+            last,
+            largest,
+            precision,
+            band,
+            historic,
+            blend,
+        } = *self.sheet;
         writeln!(f, "mileage        {mileage:>11}")?;
         writeln!(f, "last reading   {last:>11}")?;
-        writeln!(f, "largest error  {error:>11}  at point {point}")?;
+        writeln!(
+            f,
+            "largest error  {:>11}  at point {}",
+            largest.error, largest.point
+        )?;
         writeln!(f, "precision      {precision:>11}")?;
         writeln!(f, "band           {band:>11}")?;
         writeln!(f, "historic       {historic:>11}")?;
-        match (self.request.blend, sheet.blend) {
+        match (self.request.blend, blend) {
             (Some(blend), Some(score)) => write_blend(f, blend, score),
             _ => Ok(()),
         }

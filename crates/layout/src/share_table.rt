@@ -2,100 +2,75 @@ ghost use Rattle.std.specs.Prelude.{◌≤◌};
 
 use std::fmt;
 use std::fmt::Style;
-use worksheet::{ShareLine, ShareSheet};
+use worksheet::ShareSheet;
 
 // How many digits a number has.
 fn digits(number: u64) -> usize
     ensures { result ≤ 20 }
 {
-    match number.checked_ilog10() {
-        Some(log) => log as usize + 1,
-        None => 1,
-    }
+    number.checked_ilog10().map_or(1, |log| log as usize + 1)
 }
 
-// The widths of the columns. No entry passes them: a weight is at most the sum of all, a share at most the total.
+// A row of the table. A proportion is a mixed number, `33 1/3`, where `rest` is above 0, and else a whole one.
 #[derive(Clone, Copy)]
-struct Widths {
+struct Row<P, N> {
+    place: P,
+    weight: N,
+    whole: N,
+    rest: u64,
+    by_remainders: N,
+    by_running: N,
+}
+
+// The columns of a sheet: their widths, and the denominator of all proportions. No entry passes a width: a weight is
+// at most the sum of all, a share at most the total.
+#[derive(Clone, Copy)]
+struct Columns {
+    weight_sum: u64,
     weight: usize,
-    // of a proportion's whole part, of its remainder, and of its fraction with the blank before it
+    // of a proportion's whole part, and of its remainder
     whole: usize,
     rest: usize,
-    fraction: usize,
     share: usize,
+    ghost few_digits: { rest ≤ 20 },
 }
 
-impl Widths {
-    fn of(sheet: &ShareSheet) -> Widths {
+impl Columns {
+    fn of(sheet: &ShareSheet) -> Columns {
         let whole = digits(sheet.total);
         let rest = digits(sheet.weight_sum);
-        Widths {
+        Columns {
+            weight_sum: sheet.weight_sum,
             weight: rest.max(6),
             whole: whole.max(5),
             rest,
-            fraction: rest + rest + 2,
             share: whole.max(10),
         }
     }
-}
 
-fn write_heading<W: fmt::Write>(f: &mut fmt::Formatter<W>, widths: Widths) -> fmt::Result {
-    let weight = "weight".right().width(widths.weight);
-    let exact = "exact".right().width(widths.whole);
-    let blank = "".width(widths.fraction);
-    let by_remainders = "remainders".right().width(widths.share);
-    let by_running = "running".right().width(widths.share);
-    writeln!(
-        f,
-        "place  {weight}  {exact}{blank}  {by_remainders}  {by_running}"
-    )
-}
-
-// A proportion as a mixed number, `33 1/3`, or as a whole one.
-fn write_proportion<W: fmt::Write>(
-    f: &mut fmt::Formatter<W>,
-    widths: Widths,
-    line: ShareLine,
-    weight_sum: u64,
-) -> fmt::Result {
-    let whole = line.whole.right().width(widths.whole);
-    if line.rest == 0 {
-        let blank = "".width(widths.fraction);
-        return write!(f, "{whole}{blank}");
+    fn write_fraction<W: fmt::Write>(&self, f: &mut fmt::Formatter<W>, rest: u64) -> fmt::Result {
+        if rest == 0 {
+            let blank = "".width(self.rest + self.rest + 2);
+            return write!(f, "{blank}");
+        }
+        let rest = rest.right().width(self.rest);
+        write!(f, " {rest}/{}", self.weight_sum)
     }
-    let rest = line.rest.right().width(widths.rest);
-    write!(f, "{whole} {rest}/{weight_sum}")
-}
 
-fn write_line<W: fmt::Write>(
-    f: &mut fmt::Formatter<W>,
-    widths: Widths,
-    place: usize,
-    line: ShareLine,
-    weight_sum: u64,
-) -> fmt::Result {
-    let weight = line.weight.right().width(widths.weight);
-    write!(f, "{place:>5}  {weight}  ")?;
-    write_proportion(f, widths, line, weight_sum)?;
-    let by_remainders = line.by_remainders.right().width(widths.share);
-    let by_running = line.by_running.right().width(widths.share);
-    writeln!(f, "  {by_remainders}  {by_running}")
-}
-
-fn write_sums<W: fmt::Write>(
-    f: &mut fmt::Formatter<W>,
-    widths: Widths,
-    sheet: &ShareSheet,
-) -> fmt::Result {
-    let weight = sheet.weight_sum.right().width(widths.weight);
-    let exact = sheet.total.right().width(widths.whole);
-    let blank = "".width(widths.fraction);
-    let by_remainders = sheet.remainders_sum.right().width(widths.share);
-    let by_running = sheet.running_sum.right().width(widths.share);
-    writeln!(
-        f,
-        "  sum  {weight}  {exact}{blank}  {by_remainders}  {by_running}"
-    )
+    fn write<W: fmt::Write, P: fmt::Display + Copy, N: fmt::Display + Copy>(
+        &self,
+        f: &mut fmt::Formatter<W>,
+        row: Row<P, N>,
+    ) -> fmt::Result {
+        let place = row.place.right().width(5);
+        let weight = row.weight.right().width(self.weight);
+        let whole = row.whole.right().width(self.whole);
+        let by_remainders = row.by_remainders.right().width(self.share);
+        let by_running = row.by_running.right().width(self.share);
+        write!(f, "{place}  {weight}  {whole}")?;
+        self.write_fraction(f, row.rest)?;
+        writeln!(f, "  {by_remainders}  {by_running}")
+    }
 }
 
 // A sheet of shares as a table.
@@ -107,11 +82,41 @@ pub struct ShareTable<'a> {
 impl fmt::Display for ShareTable<'_> {
     fn fmt<W: fmt::Write>(&self, f: &mut fmt::Formatter<W>) -> fmt::Result {
         let sheet = self.sheet;
-        let widths = Widths::of(sheet);
-        write_heading(f, widths)?;
+        let columns = Columns::of(sheet);
+        columns.write(
+            f,
+            Row {
+                place: "place",
+                weight: "weight",
+                whole: "exact",
+                rest: 0,
+                by_remainders: "remainders",
+                by_running: "running",
+            },
+        )?;
         for (place, line) in sheet.lines.iter().enumerate() {
-            write_line(f, widths, place, *line, sheet.weight_sum)?;
+            columns.write(
+                f,
+                Row {
+                    place,
+                    weight: u64::from(line.weight),
+                    whole: line.whole,
+                    rest: line.rest,
+                    by_remainders: line.by_remainders,
+                    by_running: line.by_running,
+                },
+            )?;
         }
-        write_sums(f, widths, sheet)
+        columns.write(
+            f,
+            Row {
+                place: "sum",
+                weight: sheet.weight_sum,
+                whole: sheet.total,
+                rest: 0,
+                by_remainders: sheet.remainders_sum,
+                by_running: sheet.running_sum,
+            },
+        )
     }
 }

@@ -15,14 +15,11 @@ opens_stops p bs rest o h = let s = o h in (s.0, rest, s.1, s.2)
 some : (d : ℕ) (ds : List ℕ) → 0 < length (encode d ++ ds)
 some d ds = omega (arith, length-append (encode d) ds, length-encode d, (len_utf8_bounds d).0)
 
-not_both : true ≡ false → ⊥
-not_both e = let z : ◌≡◌ {A = ℕ} 0 1 = cc in omega arith
-
 never : (p : ℕ → Bool) (d : ℕ) (ds rest : List ℕ) → Stops p rest → p d ≡ false → rest ≡ encode d ++ ds → ⊥
 never p d ds rest o fail e =
     let h = o (subst (λ l. 0 < length l) (sym e) (some d ds)) in
     let same = encode_same h.0 d h.1 ds (sym h.3 ∙ e) in
-    not_both (sym h.2 ∙ ap p same.0 ∙ fail)
+    cc
 
 chars_same : (p : ℕ → Bool) (cs ds rest more : List ℕ) → NonePass p cs → NonePass p ds → Stops p rest → Stops p more → encodes cs ++ rest ≡ encodes ds ++ more → (encodes cs ≡ encodes ds) × (rest ≡ more)
 chars_same p [] [] rest more f g s t e = (refl, e)

@@ -1,4 +1,3 @@
-pub mod Hash
 pub mod Seen
 pub mod Numbers
 pub mod Fronts

@@ -1,13 +1,8 @@
 -- The numbered lines of a text that have words.
-use Rattle.std.specs.Prelude.{◌≡◌, ℕ, ◌+◌, ◌<◌, List, [], ◌∷◌, ◌++◌, map, length, vec_items, string_bytes}
-use Rattle.std.specs.Str.Lines.{IsFirstLine}
+use Rattle.std.specs.Prelude.{◌≡◌, ℕ, ◌+◌, List, [], ◌∷◌, ◌++◌, map, vec_items, string_bytes}
+use Rattle.std.specs.Str.Lines.{lines}
 use Rattle.lines.specs.declared.read.Line.{Line}
 use Rattle.lines.specs.Words.{before_hash, Words}
-
--- the lines of the text, without their line ends
-abbrev pub Lines : List ℕ → List (List ℕ) → Type 0
-Lines text [] = text ≡ []
-Lines text (line ∷ lines) = (rest : List ℕ) × (0 < length text) × IsFirstLine text line rest × Lines rest lines
 
 -- the number of a line and its words
 pub record Worded : Type 0 where
@@ -28,6 +23,6 @@ abbrev pub Numbered : ℕ → List (List ℕ) → List Worded → Type 0
 Numbered number [] ws = ws ≡ []
 Numbered number (line ∷ lines) ws = (words : List (List ℕ)) × (more : List Worded) × Words (before_hash line) words × Numbered (number + 1) lines more × (ws ≡ kept number words ++ more)
 
--- the lines of the text, counted from 1, give ws
+-- the lines of the text, without their line ends and counted from 1, give ws
 abbrev pub Reads : List ℕ → List Worded → Type 0
-Reads text ws = (lines : List (List ℕ)) × Lines text lines × Numbered 1 lines ws
+Reads text ws = Numbered 1 (lines text) ws

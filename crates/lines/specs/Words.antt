@@ -1,12 +1,12 @@
 -- The words of a line.
-use Rattle.std.specs.Prelude.{◌≡◌, ℕ, ◌<◌, cond, List, [], ◌∷◌, ◌++◌, length, ◌==◌}
+use Rattle.std.specs.Prelude.{◌≡◌, ℕ, ◌<◌, List, [], ◌∷◌, ◌++◌, length, ◌==◌}
 use Rattle.std.specs.Char.{is_whitespace, is_not_whitespace}
+use Rattle.std.specs.List.{before_first}
 use Rattle.std.specs.Str.{NoCharPasses, EmptyOrStartsWithPassing}
 
 -- what stands before the first `#`, whose code is 35
 abbrev pub before_hash : List ℕ → List ℕ
-before_hash [] = []
-before_hash (c ∷ cs) = cond (c == 35) [] (c ∷ before_hash cs)
+before_hash line = before_first (λ c. c == 35) line
 
 -- the text is white space, the word, and the rest, which is empty or begins with white space
 pub record First (text word rest : List ℕ) : Type 0 where

@@ -17,13 +17,15 @@ pub fn read_lines(heap: Global, text: &str) -> Result<Vec<Line>, AllocError>
     ensures only { (ws : List Worded) → Reads text.now ws → IfOk result (λ v. map worded v.items ≡ ws) }
 {
     let mut lines = Vec::new(heap);
-    let mut number = 0;
-    for line in text.lines() {
-        number += 1;
+    for (place, line) in text.lines().enumerate() {
         let words = line_words(heap, line)?;
-        if !words.is_empty() {
-            lines.push(Line { number, words })?;
+        if words.is_empty() {
+            continue;
         }
+        lines.push(Line {
+            number: place + 1,
+            words,
+        })?;
     }
     Ok(lines)
 }

@@ -7,10 +7,7 @@ use std::alloc::{AllocError, Global};
 fn uncommented(line: &str) -> &str
     ensures { result.now ≡ before_hash line.now }
 {
-    match line.split_once('#') {
-        Some((front, _)) => front,
-        None => line,
-    }
+    line.split_once('#').map_or(line, |(front, _)| front)
 }
 
 fn words_of(heap: Global, text: &str) -> Result<Vec<String>, AllocError>

@@ -1,5 +1,2 @@
-pub mod Ends
-pub mod Firsts
 pub mod Lawful
-pub mod Named
-pub mod Spans
+pub mod Costs

@@ -1,5 +1,7 @@
 -- The level that a resource tracks, and the set point from which it regulates, in kW.
-use Rattle.std.specs.Prelude.{ℕ, ◌+◌, ◌-◌, ◌*◌, min, max, cond, List, [], ◌∷◌, ℤ, Some, None, Option, int_le, nat_le}
+use Rattle.std.specs.Prelude.{ℕ, ◌+◌, ◌-◌, ◌*◌, min, max, cond, List, ℤ, Some, None, Option, int_le, nat_le, reverse}
+use Rattle.std.specs.List.{find}
+use Rattle.std.specs.Option.{option_map, unwrap_or}
 use Rattle.plant.specs.Plants.{Plant}
 use Rattle.plant.specs.declared.record.Kind.{Kind}
 use Rattle.plant.specs.declared.record.Kind.TheVariants.{Generator, Demand}
@@ -18,8 +20,7 @@ placing_refusal p a =
 
 -- the end of the last block priced at most lmp, or `level` where there is none
 abbrev pub last_end : ℤ → ℕ → List Block → ℕ
-last_end lmp level [] = level
-last_end lmp level (b ∷ bs) = last_end lmp (cond (int_le b.price lmp) b.end level) bs
+last_end lmp level bs = unwrap_or (option_map (λ b. b.end) (find (λ b. int_le b.price lmp) (reverse bs))) level
 
 -- the desired level: that end, but at least eco min; eco min where there is no such block
 abbrev pub desired : Plant → ℤ → ℕ
@@ -29,23 +30,14 @@ desired p lmp = max p.limits.eco_min (last_end lmp p.limits.eco_min p.blocks)
 abbrev pub toward : ℕ → ℕ → ℕ → ℕ
 toward most level aim = level + min most (aim - level) - min most (level - aim)
 
--- the kW by which an assignment lessens the ramp: none where nothing is assigned
-abbrev pub held_back : Option ℕ → ℕ
-held_back None = 0
-held_back (Some a) = a
-
--- the level after an interval: a generator moves toward its desired level by at most its ramp, less what is assigned;
--- a demand resource keeps its level
+-- the level after an interval: a generator moves toward its desired level by at most its ramp, less what is assigned,
+-- if anything is; a demand resource keeps its level
 abbrev pub moved_by : Kind → Plant → ℕ → ℤ → Option ℕ → ℕ
-moved_by Generator p level lmp assigned = toward (p.ramp - held_back assigned) level (desired p lmp)
+moved_by Generator p level lmp assigned = toward (p.ramp - unwrap_or assigned 0) level (desired p lmp)
 moved_by Demand p level lmp assigned = level
 
 abbrev pub moved : Plant → ℕ → ℤ → Option ℕ → ℕ
 moved p level lmp assigned = moved_by p.kind p level lmp assigned
-
--- how far apart two numbers are: subtraction stops at 0, so at least one of the two differences is 0
-abbrev pub apart : ℕ → ℕ → ℕ
-apart a b = (a - b) + (b - a)
 
 -- a number held between two
 abbrev pub between : ℕ → ℕ → ℕ → ℕ

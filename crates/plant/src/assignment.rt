@@ -1,6 +1,6 @@
 ghost use Rattle.std.specs.Prelude.{◌≡◌, ◌≤◌, true, IfOk};
 ghost use Rattle.score.specs.Ranges.{assigned_fits};
-ghost use Rattle.score.specs.Refusals.{refusal_in};
+ghost use Rattle.std.specs.Result.{result_err};
 ghost use Rattle.plant.specs.Ranges.{offer_of, assignment_refusal};
 
 use crate::record::Schedule;
@@ -11,7 +11,7 @@ use score::{LARGEST_ASSIGNED, SMALLEST_ASSIGNED};
 const LARGEST_OFFER: u32 = 100_000;
 
 // How far a resource is to follow the signal up and down from its set point, in kW, and who schedules it.
-#[derive(Clone, Copy)]
+#[derive(Clone, Copy, PartialEq, Eq, Debug)]
 pub struct Assignment {
     pub kw: u32,
     pub schedule: Schedule,
@@ -32,10 +32,10 @@ fn offer_of(schedule: Schedule) -> u32
 impl Assignment {
     // An assignment, or the first value of it that is outside its range.
     pub fn new(kw: u32, schedule: Schedule) -> Result<Assignment, AssignmentRefusal>
-        ensures answer { refusal_in result ≡ assignment_refusal kw schedule }
+        ensures answer { result_err result ≡ assignment_refusal kw schedule }
         ensures value { IfOk result (λ a. (a.kw ≡ kw) × (a.schedule ≡ schedule)) }
     {
-        if kw < SMALLEST_ASSIGNED || kw > LARGEST_ASSIGNED {
+        if !(SMALLEST_ASSIGNED..=LARGEST_ASSIGNED).contains(&kw) {
             return Err(AssignmentRefusal::Kw);
         }
         if offer_of(schedule) > LARGEST_OFFER {

@@ -1,5 +1,5 @@
 ghost use Rattle.std.specs.Prelude.{◌≡◌, ◌≤◌, ◌&&◌, length, vec_len};
-ghost use Rattle.score.specs.Refusals.{refusal_in};
+ghost use Rattle.std.specs.Result.{result_err};
 ghost use Rattle.plant.specs.Plants.{plant_of};
 ghost use Rattle.plant.specs.Ranges.{ramp_fits};
 ghost use Rattle.plant.specs.Records.{limits_hold, range_fault, rule_fault, record_fault};
@@ -21,7 +21,7 @@ const LARGEST_LEVEL: u32 = 1_000_000;
 fn ramp_fits(ramp: Ramp) -> bool
     ensures { result ≡ ramp_fits ramp.per_interval }
 {
-    ramp.per_interval >= 1 && ramp.per_interval <= LARGEST_RAMP
+    (1..=LARGEST_RAMP).contains(&ramp.per_interval)
 }
 
 fn limits_hold(limits: Limits) -> bool
@@ -35,9 +35,9 @@ fn limits_hold(limits: Limits) -> bool
 
 // Checks what must be in its range.
 fn check_ranges(record: &Record) -> Result<(), ResourceFault>
-    ensures { refusal_in result ≡ range_fault (plant_of «record».now) }
+    ensures { result_err result ≡ range_fault (plant_of «record».now) }
 {
-    if record.owners.is_empty() || record.owners.len() > MOST_OWNERS {
+    if !(1..=MOST_OWNERS).contains(&record.owners.len()) {
         return Err(ResourceFault::OwnerCount);
     }
     if record.blocks.len() > MOST_BLOCKS {
@@ -57,8 +57,7 @@ fn check_ranges(record: &Record) -> Result<(), ResourceFault>
 
 // Checks the rules of limits, owners and curve.
 fn check_rules(record: &Record) -> Result<(), ResourceFault>
-    requires { length «record».now.owners.items ≤ 4 }
-    ensures { refusal_in result ≡ rule_fault (plant_of «record».now) }
+    ensures { result_err result ≡ rule_fault (plant_of «record».now) }
 {
     if !limits_hold(record.limits) {
         return Err(ResourceFault::Limits);
@@ -66,13 +65,13 @@ fn check_rules(record: &Record) -> Result<(), ResourceFault>
     if !owners_hold(record.owners.as_slice()) {
         return Err(ResourceFault::Owners);
     }
-    check_curve(record.kind, record.limits.eco_max, record.blocks.as_slice())?;
-    Ok(())
+    Ok(check_curve(record.kind, record.limits.eco_max, record.blocks.as_slice())?)
 }
 
 // Checks a record, its ranges before its rules.
+#[tactic(auto, unfolding(crate::specs::Records::record_fault))]
 pub(crate) fn check_record(record: &Record) -> Result<(), ResourceFault>
-    ensures { refusal_in result ≡ record_fault (plant_of «record».now) }
+    ensures { result_err result ≡ record_fault (plant_of «record».now) }
 {
     check_ranges(record)?;
     check_rules(record)

@@ -1,23 +1,26 @@
 ghost use Rattle.std.specs.Prelude.{◌≡◌};
+ghost use Rattle.std.proofs.Common.{rules};
 ghost use Rattle.plant.specs.declared.fault.ResourceFault.TheVariants as fault;
 ghost use Rattle.plant.specs.Numbers.{fault_number};
 
+use refusals::Refusal;
+
 // What of a block is at fault.
-#[derive(Clone, Copy)]
+#[derive(Clone, Copy, PartialEq, Eq, Debug)]
 pub enum Aspect {
     Level,
     Price,
 }
 
 // The lowest block of a curve that is at fault, counted from 1; block 0 is a curve that is missing or not due.
-#[derive(Clone, Copy)]
+#[derive(Clone, Copy, PartialEq, Eq, Debug)]
 pub struct CurveFault {
     pub block: usize,
     pub aspect: Aspect,
 }
 
 // Why a record is not a resource's.
-#[derive(Clone, Copy)]
+#[derive(Clone, Copy, PartialEq, Eq, Debug)]
 pub enum ResourceFault {
     // There are not 1 to 4 owners.
     OwnerCount,
@@ -45,11 +48,12 @@ impl From<CurveFault> for ResourceFault {
     }
 }
 
-impl ResourceFault {
-    // The number of the refusal.
-    pub fn number(self) -> u8
-        ensures { result ≡ fault_number self }
-    {
+impl Refusal for ResourceFault {
+    ghost row = { fault_number };
+
+    ghost in_table = { Prim.search rules };
+
+    fn number(self) -> u8 {
         match self {
             ResourceFault::OwnerCount => 6,
             ResourceFault::BlockCount => 6,

@@ -8,13 +8,11 @@ use crate::record::{Block, Record};
 fn last_end(blocks: &[Block], lmp: i32, level: u32) -> u32
     ensures { result ≡ last_end lmp level blocks.now }
 {
-    let mut end = level;
-    for block in blocks {
-        if block.price <= lmp {
-            end = block.end;
-        }
-    }
-    end
+    blocks
+        .iter()
+        .rev()
+        .find(|block| block.price <= lmp)
+        .map_or(level, |block| block.end)
 }
 
 // The level that a resource would run at, were it not regulating.

@@ -1,8 +1,9 @@
-ghost use Rattle.std.specs.Prelude.{◌≡◌, ◌≤◌, MatchResult, unsigned_abs};
-ghost use Rattle.score.specs.Refusals.{refusal_in};
+ghost use Rattle.std.specs.Prelude.{◌≡◌, ◌≤◌, IfOk, unsigned_abs};
+ghost use Rattle.std.specs.Result.{result_err};
 ghost use Rattle.plant.specs.Ranges.{energy_price_fits, price_refusal};
 
 use crate::refusal::PriceRefusal;
+use score::is_within;
 
 const LARGEST_RMCCP: u32 = 1_000_000;
 
@@ -18,7 +19,7 @@ pub const LARGEST_MILEAGE: u32 = 3_000_000;
 
 // The prices of an interval, in cents per MWh: of capability (RMCCP), of mileage (RMMCP) and of energy (LMP); and the
 // mileage of an interval that is usual, in ten-thousandths.
-#[derive(Clone, Copy)]
+#[derive(Clone, Copy, PartialEq, Eq, Debug)]
 pub struct Prices {
     pub rmccp: u32,
     pub rmmcp: u32,
@@ -34,7 +35,7 @@ pub struct Prices {
 pub(crate) fn energy_price_fits(price: i32) -> bool
     ensures { result ≡ energy_price_fits price }
 {
-    price.unsigned_abs() <= LARGEST_ENERGY_PRICE
+    is_within::<LARGEST_ENERGY_PRICE>(price)
 }
 
 impl Prices {
@@ -45,10 +46,9 @@ impl Prices {
         lmp: i32,
         historic_mileage: u32,
     ) -> Result<Prices, PriceRefusal>
-        ensures answer { refusal_in result ≡ price_refusal rmccp rmmcp lmp historic_mileage }
-        ensures value { MatchResult result
-            (λ p. (p.rmccp ≡ rmccp) × (p.rmmcp ≡ rmmcp) × (p.lmp ≡ lmp) × (p.historic_mileage ≡ historic_mileage))
-            (λ _. Unit {0}) }
+        ensures answer { result_err result ≡ price_refusal rmccp rmmcp lmp historic_mileage }
+        ensures value { IfOk result
+            (λ p. (p.rmccp ≡ rmccp) × (p.rmmcp ≡ rmmcp) × (p.lmp ≡ lmp) × (p.historic_mileage ≡ historic_mileage)) }
     {
         if rmccp > LARGEST_RMCCP {
             return Err(PriceRefusal::Rmccp);
@@ -59,7 +59,7 @@ impl Prices {
         if !energy_price_fits(lmp) {
             return Err(PriceRefusal::Lmp);
         }
-        if historic_mileage < SMALLEST_HISTORIC_MILEAGE || historic_mileage > LARGEST_MILEAGE {
+        if !(SMALLEST_HISTORIC_MILEAGE..=LARGEST_MILEAGE).contains(&historic_mileage) {
             return Err(PriceRefusal::HistoricMileage);
         }
         Ok(Prices {

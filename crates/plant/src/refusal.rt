@@ -1,8 +1,10 @@
-ghost use Rattle.std.specs.Prelude.{◌≡◌};
+ghost use Rattle.std.proofs.Common.{rules};
 ghost use Rattle.plant.specs.Numbers.{assignment_number, price_number};
 
+use refusals::Refusal;
+
 // Why an assignment is not taken.
-#[derive(Clone, Copy)]
+#[derive(Clone, Copy, PartialEq, Eq, Debug)]
 pub enum AssignmentRefusal {
     // The kW assigned are outside 100 to 200,000.
     Kw,
@@ -14,11 +16,12 @@ pub enum AssignmentRefusal {
     Band,
 }
 
-impl AssignmentRefusal {
-    // The number of the refusal.
-    pub fn number(self) -> u8
-        ensures { result ≡ assignment_number self }
-    {
+impl Refusal for AssignmentRefusal {
+    ghost row = { assignment_number };
+
+    ghost in_table = { Prim.search rules };
+
+    fn number(self) -> u8 {
         match self {
             AssignmentRefusal::Kw => 6,
             AssignmentRefusal::Offer => 6,
@@ -29,7 +32,7 @@ impl AssignmentRefusal {
 }
 
 // Which price is outside its range.
-#[derive(Clone, Copy)]
+#[derive(Clone, Copy, PartialEq, Eq, Debug)]
 pub enum PriceRefusal {
     Rmccp,
     Rmmcp,
@@ -37,11 +40,12 @@ pub enum PriceRefusal {
     HistoricMileage,
 }
 
-impl PriceRefusal {
-    // The number of the refusal.
-    pub fn number(self) -> u8
-        ensures { result ≡ price_number self }
-    {
+impl Refusal for PriceRefusal {
+    ghost row = { price_number };
+
+    ghost in_table = { Prim.search rules };
+
+    fn number(self) -> u8 {
         match self {
             PriceRefusal::Rmccp => 6,
             PriceRefusal::Rmmcp => 6,

@@ -1,14 +1,15 @@
 ghost use Rattle.std.specs.Prelude.{◌≡◌, ◌+◌, ◌-◌, ◌*◌, ◌≤◌, true, IfOk};
 ghost use Rattle.std.specs.Option.{option_map};
-ghost use Rattle.score.specs.Refusals.{refusal_in};
+ghost use Rattle.std.specs.Result.{result_err};
 ghost use Rattle.plant.specs.Costs.{area};
-ghost use Rattle.plant.specs.Levels.{placing_refusal, desired, moved, held_back, apart, set_point};
+ghost use Rattle.plant.specs.Levels.{placing_refusal, desired, moved, set_point};
+ghost use Rattle.std.specs.Int.{abs_diff};
 ghost use Rattle.plant.specs.Plants.{plant_of};
 ghost use Rattle.plant.specs.Records.{record_fault, lawful};
 
 use crate::assignment::Assignment;
 use crate::check::check_record;
-use crate::cost::lost;
+use crate::cost::Market;
 use crate::fault::ResourceFault;
 use crate::level::desired;
 use crate::prices::Prices;
@@ -23,20 +24,10 @@ pub struct Resource {
     ghost checked: { lawful (plant_of details) ≡ true },
 }
 
-// The kW that an assignment holds back from the ramp.
-fn held_back(assignment: Option<Assignment>) -> u32
-    ensures { result ≡ held_back (option_map (λ a. a.kw) assignment) }
-{
-    match assignment {
-        Some(assignment) => assignment.kw,
-        None => 0,
-    }
-}
-
 impl Resource {
     // The resource of a record, or the first fault of the record.
     pub fn new(details: Record) -> Result<Resource, ResourceFault>
-        ensures answer { refusal_in result ≡ record_fault (plant_of details) }
+        ensures answer { result_err result ≡ record_fault (plant_of details) }
         ensures value { IfOk result (λ x. x.details ≡ details) }
     {
         check_record(&details)?;
@@ -51,8 +42,9 @@ impl Resource {
     }
 
     // Whether it can follow the signal so far.
+    #[tactic(auto, using(crate::proofs::Lawful::limited))]
     pub fn check_assignment(&self, assignment: Assignment) -> Result<(), AssignmentRefusal>
-        ensures { refusal_in result ≡ placing_refusal (plant_of self.now.details) assignment.kw }
+        ensures { result_err result ≡ placing_refusal (plant_of self.now.details) assignment.kw }
     {
         let limits = self.details.limits;
         if assignment.kw > self.details.ramp.per_interval {
@@ -81,13 +73,15 @@ impl Resource {
         match self.details.kind {
             Kind::Generator => {
                 let aim = desired(&self.details, lmp);
-                step(&mut self.details, held_back(assignment), level, aim)
+                let held_back = assignment.map_or(0, |assignment| assignment.kw);
+                step(&mut self.details, held_back, level, aim)
             }
             Kind::Demand => level,
         }
     }
 
     // The set point from which it regulates, where it tracks `level`.
+    #[tactic(auto, using(crate::proofs::Lawful::limited))]
     pub fn set_point(&self, level: u32, assignment: Assignment) -> u32
         ensures value { result ≡ set_point self.now.details.limits level assignment.kw }
     {
@@ -99,12 +93,19 @@ impl Resource {
 
     // The area of its opportunity cost, in cents per MWh times kW, where it tracks `level` and regulates from
     // `set_point`.
+    #[tactic(auto, using(crate::proofs::Costs::lost_small))]
     pub fn area(&self, prices: Prices, level: u32, set_point: u32) -> u64
         ensures value { result ≡ area self.now.details.kind self.now.details.blocks.items prices.lmp level set_point }
-        ensures bound { result ≤ 2000000 * apart level set_point }
+        ensures bound { result ≤ 2000000 * abs_diff level set_point }
     {
         match self.details.kind {
-            Kind::Generator => lost(self.details.blocks.as_slice(), prices.lmp, level, set_point),
+            Kind::Generator => {
+                let market = Market {
+                    blocks: self.details.blocks.as_slice(),
+                    prices,
+                };
+                market.lost(level, set_point)
+            }
             Kind::Demand => 0,
         }
     }

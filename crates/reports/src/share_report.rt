@@ -1,8 +1,7 @@
-ghost use Rattle.std.specs.Prelude.{map, IfOk, string_bytes};
+ghost use Rattle.std.specs.Prelude.{map, string_bytes};
 ghost use Rattle.reports.specs.Failures.{ShareReported};
 
-use crate::report::Report;
-use layout::{DivideRefusalText, RequestFaultText, ShareTable};
+use layout::{RefusalText, ShareTable};
 use std::alloc::{AllocError, Global};
 use worksheet::{RequestFault, ShareRequest, SheetFault, read_request, share_sheet};
 
@@ -14,30 +13,17 @@ fn answer(heap: Global, request: &ShareRequest) -> Result<String, AllocError> {
             format!(in heap; "{table}")
         }
         Err(SheetFault::Refused(refusal)) => {
-            let refused = DivideRefusalText { refusal };
+            let refused = RefusalText { refusal };
             format!(in heap; "{refused}\n")
         }
         Err(SheetFault::NoMemory) => Err(AllocError),
     }
 }
 
-// What `share` prints for the words after it. It fails where they are no total and weights; that much the contract
-// says. The wording is tested.
-pub fn report_share(heap: Global, words: &[String]) -> Result<Report, AllocError>
-    ensures { IfOk result (λ p. ShareReported (map string_bytes words.now) p.failed) }
+// What `share` prints for the words after it, or what keeps them from being a total and weights. The wording is tested.
+pub fn report_share(heap: Global, words: &[String]) -> Result<String, RequestFault>
+    ensures { ShareReported (map string_bytes words.now) result }
 {
-    match read_request(heap, words) {
-        Ok(request) => Ok(Report {
-            text: answer(heap, &request)?,
-            failed: false,
-        }),
-        Err(RequestFault::NoMemory) => Err(AllocError),
-        Err(fault) => {
-            let why = RequestFaultText { fault: &fault };
-            Ok(Report {
-                text: format!(in heap; "{why}\n")?,
-                failed: true,
-            })
-        }
-    }
+    let request = read_request(heap, words)?;
+    Ok(answer(heap, &request)?)
 }

@@ -1,9 +1,10 @@
--- One turn of the walk along the readings, and its end.
+-- One turn of the walk along the readings.
 use Rattle.std.proofs.Common.{◌≡◌, ℕ, ◌+◌, ◌*◌, ◌<◌, ◌≤◌, true, List, length, get_or, drop, ℤ, pos, nat_abs, sym, refl, ◌∙◌, arith}
-use Rattle.std.proofs.lemmas.List.{at_drop_more, at_drop_all}
+use Rattle.std.specs.List.{list_all}
+use Rattle.std.proofs.lemmas.List.{at_drop_more}
 use Rattle.std.proofs.lemmas.Int.{ints}
 use Rattle.std.proofs.lemmas.Bool.{leb-true}
-use Rattle.score.specs.Ranges.{every, reading_fits}
+use Rattle.score.specs.Ranges.{reading_fits}
 use Rattle.score.specs.Signals.{distance, mileage_of, last_of}
 use Rattle.score.specs.Tests.{every_at}
 
@@ -17,10 +18,7 @@ pub record Walked (z : ℤ) (zs : List ℤ) (i m : ℕ) (before : ℤ) : Type 0 
   pub bound : m ≤ 20000 * i
   pub near : nat_abs before ≤ 10000
 
-pub started : (z : ℤ) (zs : List ℤ) → reading_fits z ≡ true → Walked z zs 0 0 z
-started z zs e = record { mileage = omega arith; last = refl; bound = omega arith; near = leb-true _ _ e }
-
-module _ (z : ℤ) (zs : List ℤ) (i m : ℕ) (before r : ℤ) (d : ℕ) (taken : i < length zs) (here : r ≡ get_or zs i (pos 0)) (all : every reading_fits zs ≡ true) (step : d ≡ distance r before) (so_far : Walked z zs i m before) where
+module _ (z : ℤ) (zs : List ℤ) (i m : ℕ) (before r : ℤ) (d : ℕ) (taken : i < length zs) (here : r ≡ get_or zs i (pos 0)) (all : list_all reading_fits zs ≡ true) (step : d ≡ distance r before) (so_far : Walked z zs i m before) where
   near_r : nat_abs r ≤ 10000
   near_r = rw here (leb-true _ _ (every_at reading_fits zs i (pos 0) refl all))
 
@@ -34,9 +32,3 @@ module _ (z : ℤ) (zs : List ℤ) (i m : ℕ) (before r : ℤ) (d : ℕ) (taken
       let t' : mileage_of before (drop i zs) ≡ distance r before + mileage_of r (drop (i + 1) zs) = rw here t in
       let l' : last_of before (drop i zs) ≡ last_of r (drop (i + 1) zs) = rw here l in
       record { mileage = omega (arith, t', step, so_far.mileage); last = sym l' ∙ so_far.last; bound = turn_bound; near = near_r }
-
-pub ended : (z : ℤ) (zs : List ℤ) (i m : ℕ) (before : ℤ) → length zs ≤ i → Walked z zs i m before → (m ≡ mileage_of z zs) × (before ≡ last_of z zs)
-ended z zs i m before left w =
-    let t : mileage_of before (drop i zs) ≡ 0 = at_drop_all (mileage_of before) zs i left in
-    let l : last_of before (drop i zs) ≡ before = at_drop_all (last_of before) zs i left in
-    (omega (arith, t, w.mileage), sym l ∙ w.last)

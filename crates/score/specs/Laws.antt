@@ -1,12 +1,13 @@
 -- What every scorer keeps.
 use Rattle.std.specs.Prelude.{◌≡◌, ℕ, ◌+◌, ◌-◌, ◌*◌, ◌/◌, ◌<◌, ◌≤◌, min, true, false, cond, leb, List, [], ◌∷◌, length, sum, count_by, nat_le}
+use Rattle.std.specs.List.{list_all}
 use Rattle.std.proofs.Common.{ap, inl, inr, mul-le-mul_left, div-mul-le_self, div-add-mod', arith}
 use Rattle.std.proofs.lemmas.Nat.{le-div}
 use Rattle.std.proofs.lemmas.List.Elements.{length_all_zip}
 use Rattle.std.proofs.lemmas.List.Sums.{sum_by-cons, count_by-le-length}
 use Rattle.std.proofs.lemmas.Bool.{cases_eq}
 use Rattle.std.proofs.lemmas.Bool.Decides.{nat_tests}
-use Rattle.score.specs.Ranges.{every, error_fits}
+use Rattle.score.specs.Ranges.{error_fits}
 use Rattle.score.specs.Choices.{plain_rating}
 use Rattle.score.specs.declared.any.PlainScorer.{PlainScorer}
 use Rattle.score.specs.declared.any.PlainScorer.TheVariants as plain
@@ -14,26 +15,26 @@ use Rattle.score.specs.Scores.{scorable, scored, NoLarger, rounded_up, precision
 use Rattle.score.specs.Tests.{every_each}
 
 -- what is scorable
-pub scorable_parts : (a : ℕ) (es : List ℕ) (h : ℕ) → scorable a es h ≡ true → (100 ≤ a) × (a ≤ 200000) × (length es ≡ 30) × (every error_fits es ≡ true) × (h ≤ 10000)
+pub scorable_parts : (a : ℕ) (es : List ℕ) (h : ℕ) → scorable a es h ≡ true → (100 ≤ a) × (a ≤ 200000) × (length es ≡ 30) × (list_all error_fits es ≡ true) × (h ≤ 10000)
 scorable_parts a es h e =
     (grind (arith, nat_tests), grind (arith, nat_tests), grind (arith, nat_tests), grind (arith, nat_tests), grind (arith, nat_tests))
 
-pub error_sum : (es : List ℕ) → every error_fits es ≡ true → sum es ≤ 20000000000 * length es
+pub error_sum : (es : List ℕ) → list_all error_fits es ≡ true → sum es ≤ 20000000000 * length es
 error_sum [] s = omega arith
 error_sum (e ∷ es) s =
     let more : sum (e ∷ es) ≡ e + sum es = sum_by-cons (λ x. x) e es in
-    let rest : every error_fits es ≡ true = grind (arith, nat_tests) in
+    let rest : list_all error_fits es ≡ true = grind (arith, nat_tests) in
     let here : e ≤ 20000000000 = grind (arith, nat_tests) in
     let after : sum es ≤ 20000000000 * length es = error_sum es rest in
     omega arith
 
 -- errors that are no larger are scorable too
-errors_eased : (es fs : List ℕ) → NoLarger es fs → every error_fits fs ≡ true → every error_fits es ≡ true
+errors_eased : (es fs : List ℕ) → NoLarger es fs → list_all error_fits fs ≡ true → list_all error_fits es ≡ true
 errors_eased es fs p e = every_each error_fits (λ x y. x ≤ y) (λ x y l q. grind (arith, nat_tests)) es fs p e
 
 scorable_eased : (a : ℕ) (es fs : List ℕ) (h : ℕ) → NoLarger es fs → scorable a fs h ≡ true → scorable a es h ≡ true
 scorable_eased a es fs h p e =
-    let ease : every error_fits fs ≡ true → every error_fits es ≡ true = errors_eased es fs p in
+    let ease : list_all error_fits fs ≡ true → list_all error_fits es ≡ true = errors_eased es fs p in
     let l : length es ≡ length fs = length_all_zip (λ x y. x ≤ y) es fs p in
     grind (arith, nat_tests)
 

@@ -5,6 +5,7 @@ pub mod Windows
 pub mod Errors
 pub mod Scores
 pub mod Choices
+pub mod Names
 pub mod Laws
 pub mod Tests
 pub mod AnyLaws

@@ -1,10 +1,5 @@
 -- The ranges of readings, points, assignments, errors and historic scores.
-use Rattle.std.specs.Prelude.{ℕ, Bool, true, ◌&&◌, List, [], ◌∷◌, ℤ, nat_le, unsigned_abs}
-
--- every element passes the test
-abbrev pub every : {X : Type 0} → (X → Bool) → List X → Bool
-every test [] = true
-every test (x ∷ xs) = test x && every test xs
+use Rattle.std.specs.Prelude.{ℕ, Bool, ◌&&◌, ℤ, nat_le, unsigned_abs}
 
 -- a reading of the signal is from -10,000 to 10,000
 abbrev pub reading_fits : ℤ → Bool

@@ -1,5 +1,5 @@
 -- The refusals of a signal and of a point, and the number of each.
-use Rattle.std.specs.Prelude.{ℕ, Some, None, Ok, Err, Option, Result}
+use Rattle.std.specs.Prelude.{ℕ}
 use Rattle.score.specs.declared.refusal.SignalRefusal.{SignalRefusal}
 use Rattle.score.specs.declared.refusal.SignalRefusal.TheVariants.{ReadingCount, ReadingRange}
 use Rattle.score.specs.declared.refusal.WindowRefusal.{WindowRefusal}
@@ -14,8 +14,3 @@ signal_number ReadingRange = 6
 abbrev pub window_number : WindowRefusal → ℕ
 window_number Full = 4
 window_number PointRange = 6
-
--- the refusal that an answer is, if it is one
-abbrev pub refusal_in : {X E : Type 0} → Result X E → Option E
-refusal_in (Ok x) = None
-refusal_in (Err e) = Some e

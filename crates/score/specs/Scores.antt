@@ -1,11 +1,11 @@
 -- What each scorer gives for the kW assigned, a, the errors es and the historic score h.
 use Rattle.std.specs.Prelude.{ℕ, ◌+◌, ◌-◌, ◌*◌, ◌/◌, ◌%◌, ◌≤◌, min, Bool, cond, ◌&&◌, List, length, sum, count_by, ◌==◌, nat_le}
-use Rattle.std.specs.List.{AllZip}
-use Rattle.score.specs.Ranges.{every, assigned_fits, error_fits, historic_fits}
+use Rattle.std.specs.List.{AllZip, list_all}
+use Rattle.score.specs.Ranges.{assigned_fits, error_fits, historic_fits}
 
 -- every value is in its range, and there are thirty errors
 abbrev pub scorable : ℕ → List ℕ → ℕ → Bool
-scorable a es h = assigned_fits a && (length es == 30 && (every error_fits es && historic_fits h))
+scorable a es h = assigned_fits a && (length es == 30 && (list_all error_fits es && historic_fits h))
 
 -- what is not scorable scores 0
 abbrev pub scored : ℕ → List ℕ → ℕ → ℕ → ℕ

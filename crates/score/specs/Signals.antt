@@ -1,6 +1,7 @@
 -- The control signal of an interval.
 use Rattle.std.specs.Prelude.{ℕ, ◌+◌, cond, not, ◌&&◌, List, [], ◌∷◌, length, ℤ, ◌-ℤ◌, Some, None, Option, ◌==◌, unsigned_abs}
-use Rattle.score.specs.Ranges.{every, reading_fits}
+use Rattle.std.specs.List.{list_all}
+use Rattle.score.specs.Ranges.{reading_fits}
 use Rattle.score.specs.declared.refusal.SignalRefusal.{SignalRefusal}
 use Rattle.score.specs.declared.refusal.SignalRefusal.TheVariants.{ReadingCount, ReadingRange}
 
@@ -8,7 +9,7 @@ use Rattle.score.specs.declared.refusal.SignalRefusal.TheVariants.{ReadingCount,
 abbrev pub signal_refusal : ℤ → List ℤ → Option SignalRefusal
 signal_refusal z readings =
     cond (not (length readings == 150)) (Some ReadingCount)
-    (cond (reading_fits z && every reading_fits readings) None (Some ReadingRange))
+    (cond (reading_fits z && list_all reading_fits readings) None (Some ReadingRange))
 
 -- how far two readings are from each other
 abbrev pub distance : ℤ → ℤ → ℕ

@@ -1,13 +1,9 @@
 -- The points of a window.
 use Rattle.std.specs.Prelude.{◌-◌, cond, List, [], ◌∷◌, ◌++◌, length, replicate, ℤ, pos, Some, None, Option, nat_le}
+use Rattle.std.specs.Option.{option_or}
 use Rattle.score.specs.Ranges.{point_fits}
 use Rattle.score.specs.declared.refusal.WindowRefusal.{WindowRefusal}
 use Rattle.score.specs.declared.refusal.WindowRefusal.TheVariants.{Full, PointRange}
-
--- a refusal, or else another
-abbrev pub or_else : Option WindowRefusal → Option WindowRefusal → Option WindowRefusal
-or_else None other = other
-or_else (Some refusal) other = Some refusal
 
 -- the first refusal that applies to a point, where these points are gathered already
 abbrev pub point_refusal : List ℤ → ℤ → Option WindowRefusal
@@ -19,7 +15,7 @@ point_refusal gathered point =
 abbrev pub first_refusal : List ℤ → List ℤ → Option WindowRefusal
 first_refusal gathered [] = None
 first_refusal gathered (point ∷ points) =
-    or_else (point_refusal gathered point) (first_refusal (gathered ++ point ∷ []) points)
+    option_or (point_refusal gathered point) (first_refusal (gathered ++ point ∷ []) points)
 
 -- the points of a window once it is closed: those gathered, and 0 for each that was not sent
 abbrev pub closed : List ℤ → List ℤ

@@ -2,7 +2,7 @@ ghost use Rattle.std.specs.Prelude.{◌≡◌, ℕ, ◌≤◌, length, count_by,
 ghost use Rattle.score.specs.Scores.{band};
 ghost use Rattle.score.specs.Laws.{band_bounded, scored_outside, band_monotone};
 
-use crate::scorable::{FULL_SCORE, scorable};
+use crate::performance::{FULL_SCORE, Performance};
 use crate::scorer::Scorer;
 use crate::window::POINTS;
 
@@ -14,18 +14,11 @@ const BAND: u64 = 1_000;
 pub struct Band;
 
 // How many errors are at most `most`.
-fn count_within(errors: &[u64], most: u64) -> u32
-    requires { length errors.now ≤ 30 }
+fn count_within(errors: &[u64], most: u64) -> usize
     ensures count { result ≡ count_by (λ e. nat_le e most) errors.now }
-    ensures few { result ≤ 30 }
+    ensures few { result ≤ length errors.now }
 {
-    let mut count = 0;
-    for error in errors {
-        if *error <= most {
-            count += 1;
-        }
-    }
-    count
+    errors.iter().filter(|error| **error <= most).count()
 }
 
 impl Scorer for Band {
@@ -37,10 +30,11 @@ impl Scorer for Band {
 
     ghost monotone = { λ s a es fs h p. band_monotone a es fs h p };
 
-    fn score(&self, assigned: u32, errors: &[u64], historic: u32) -> u32 {
-        if !scorable(assigned, errors, historic) {
+    fn score(&self, performance: &Performance) -> u32 {
+        if !performance.is_scorable() {
             return 0;
         }
-        FULL_SCORE * count_within(errors, BAND * u64::from(assigned)) / POINTS as u32
+        let within = count_within(performance.errors, BAND * u64::from(performance.assigned));
+        FULL_SCORE * within as u32 / POINTS as u32
     }
 }

@@ -2,7 +2,7 @@ ghost use Rattle.std.specs.Prelude.{◌≡◌, ℕ, ◌≤◌};
 ghost use Rattle.score.specs.Scores.{blended};
 ghost use Rattle.score.specs.Laws.{blended_bounded, blended_outside, blended_monotone};
 
-use crate::scorable::FULL_SCORE;
+use crate::performance::{FULL_SCORE, Performance};
 use crate::scorer::Scorer;
 
 // Two scorers, the first with the weight `weight` of 10,000 and the second with the rest.
@@ -32,9 +32,9 @@ impl<A: Scorer, B: Scorer> Scorer for Blend<A, B> {
 
     ghost monotone = { λ s a es fs h p. blended_monotone s.weight _ _ _ _ (A.Scorer.monotone s.first a es fs h p) (B.Scorer.monotone s.second a es fs h p) };
 
-    fn score(&self, assigned: u32, errors: &[u64], historic: u32) -> u32 {
-        let first = self.first.score(assigned, errors, historic);
-        let second = self.second.score(assigned, errors, historic);
+    fn score(&self, performance: &Performance) -> u32 {
+        let first = self.first.score(performance);
+        let second = self.second.score(performance);
         mix(self.weight, first, second)
     }
 }

@@ -1,5 +1,5 @@
 ghost use Rattle.std.specs.Prelude.{◌≡◌, [], IfOk};
-ghost use Rattle.score.specs.Refusals.{refusal_in};
+ghost use Rattle.std.specs.Result.{result_err};
 ghost use Rattle.score.specs.Windows.{first_refusal, closed};
 
 use crate::refusal::WindowRefusal;
@@ -7,7 +7,7 @@ use crate::window::{ClosedWindow, GatheringWindow};
 
 // The closed window of these points, sent one after another, or the refusal of the first that is refused.
 pub fn gather(points: &[i32]) -> Result<ClosedWindow, WindowRefusal>
-    ensures answer { refusal_in result ≡ first_refusal [] points.now }
+    ensures answer { result_err result ≡ first_refusal [] points.now }
     ensures window { IfOk result (λ w. w.points ≡ closed points.now) }
 {
     let mut window = GatheringWindow::new();

@@ -2,7 +2,7 @@ ghost use Rattle.std.specs.Prelude.{◌≡◌, ℕ};
 ghost use Rattle.score.specs.Scores.{historic};
 ghost use Rattle.score.specs.Laws.{historic_bounded, scored_outside, historic_monotone};
 
-use crate::scorable::scorable;
+use crate::performance::Performance;
 use crate::scorer::Scorer;
 
 // The historic score.
@@ -18,9 +18,9 @@ impl Scorer for Historic {
 
     ghost monotone = { λ s a es fs h p. historic_monotone a es fs h p };
 
-    fn score(&self, assigned: u32, errors: &[u64], historic: u32) -> u32 {
-        if scorable(assigned, errors, historic) {
-            historic
+    fn score(&self, performance: &Performance) -> u32 {
+        if performance.is_scorable() {
+            performance.historic
         } else {
             0
         }

@@ -2,7 +2,7 @@ ghost use Rattle.std.specs.Prelude.{◌≡◌, ℕ, ◌^◌, ◌<◌, sum};
 ghost use Rattle.score.specs.Scores.{precision};
 ghost use Rattle.score.specs.Laws.{precision_bounded, scored_outside, precision_monotone};
 
-use crate::scorable::{FULL_SCORE, scorable};
+use crate::performance::{FULL_SCORE, Performance};
 use crate::scorer::Scorer;
 use crate::window::POINTS;
 
@@ -26,11 +26,12 @@ impl Scorer for Precision {
 
     ghost monotone = { λ s a es fs h p. precision_monotone a es fs h p };
 
-    fn score(&self, assigned: u32, errors: &[u64], historic: u32) -> u32 {
-        if !scorable(assigned, errors, historic) {
+    fn score(&self, performance: &Performance) -> u32 {
+        if !performance.is_scorable() {
             return 0;
         }
-        let lost = total(errors).div_ceil(POINTS as u64 * u64::from(assigned));
+        let all_assigned = POINTS as u64 * u64::from(performance.assigned);
+        let lost = total(performance.errors).div_ceil(all_assigned);
         u64::from(FULL_SCORE).saturating_sub(lost) as u32
     }
 }

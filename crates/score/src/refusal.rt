@@ -1,20 +1,25 @@
-ghost use Rattle.std.specs.Prelude.{◌≡◌};
+ghost use Rattle.std.proofs.Common.{rules};
 ghost use Rattle.score.specs.Refusals.{signal_number, window_number};
 
+use refusals::Refusal;
+use thiserror::Error;
+
 // Why readings are not taken.
-#[derive(Clone, Copy, PartialEq, Eq, Debug)]
+#[derive(Clone, Copy, PartialEq, Eq, Debug, Error)]
 pub enum SignalRefusal {
-    // There are not 150 of them.
+    #[error("there are not 150 readings")]
     ReadingCount,
-    // One of them, or the reading before them, is outside -10,000 to 10,000.
+    // One of them, or the reading before them, is.
+    #[error("a reading is outside -10000 to 10000")]
     ReadingRange,
 }
 
-impl SignalRefusal {
-    // The number of the refusal.
-    pub fn number(self) -> u8
-        ensures { result ≡ signal_number self }
-    {
+impl Refusal for SignalRefusal {
+    ghost row = { signal_number };
+
+    ghost in_table = { Prim.search rules };
+
+    fn number(self) -> u8 {
         match self {
             SignalRefusal::ReadingCount => 6,
             SignalRefusal::ReadingRange => 6,
@@ -23,19 +28,21 @@ impl SignalRefusal {
 }
 
 // Why a point is not taken.
-#[derive(Clone, Copy, PartialEq, Eq, Debug)]
+#[derive(Clone, Copy, PartialEq, Eq, Debug, Error)]
 pub enum WindowRefusal {
-    // There are thirty points already.
+    // There are thirty already.
+    #[error("there are more than 30 points")]
     Full,
-    // The point is outside -1,000,000 to 1,000,000 kW.
+    #[error("a point is outside -1000000 to 1000000 kW")]
     PointRange,
 }
 
-impl WindowRefusal {
-    // The number of the refusal.
-    pub fn number(self) -> u8
-        ensures { result ≡ window_number self }
-    {
+impl Refusal for WindowRefusal {
+    ghost row = { window_number };
+
+    ghost in_table = { Prim.search rules };
+
+    fn number(self) -> u8 {
         match self {
             WindowRefusal::Full => 4,
             WindowRefusal::PointRange => 6,

@@ -1,14 +1,16 @@
 ghost use Rattle.std.specs.Prelude.{◌≡◌, ℕ, ◌≤◌, false, List};
 ghost use Rattle.score.specs.Scores.{scorable, NoLarger};
 
+use crate::performance::Performance;
+
 // A rule that rates how well a resource followed the signal in an interval.
 pub trait Scorer {
     // The score for the kW assigned, the errors and the historic score.
     ghost rating: { Self → ℕ → List ℕ → ℕ → ℕ };
 
     // The score. Asking changes nothing.
-    fn score(&self, assigned: u32, errors: &[u64], historic: u32) -> u32
-        ensures { result ≡ rating self.now assigned errors.now historic };
+    fn score(&self, performance: &Performance) -> u32
+        ensures { result ≡ rating self.now performance.now.assigned performance.now.errors.now performance.now.historic };
 
     // A score is at most 10,000.
     ghost bounded: { (s : Self) (a : ℕ) (es : List ℕ) (h : ℕ) → rating s a es h ≤ 10000 };

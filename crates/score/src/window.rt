@@ -1,8 +1,10 @@
 ghost use Rattle.std.specs.Prelude.{◌≡◌, ◌-◌, ◌≤◌, true, false, cond, [], ◌∷◌, ◌++◌, take, drop, replicate, pos, is_ok};
-ghost use Rattle.score.specs.Ranges.{every, point_fits};
-ghost use Rattle.score.specs.Refusals.{refusal_in};
+ghost use Rattle.std.specs.List.{list_all};
+ghost use Rattle.std.specs.Result.{result_err};
+ghost use Rattle.score.specs.Ranges.{point_fits};
 ghost use Rattle.score.specs.Windows.{point_refusal, closed};
 
+use crate::ranges::is_within;
 use crate::refusal::WindowRefusal;
 
 // The points of a window, one each ten seconds.
@@ -19,20 +21,14 @@ pub struct GatheringWindow {
     sent: usize,
     ghost room: { sent ≤ 30 },
     ghost unsent: { drop sent points ≡ replicate (30 - sent) (pos 0) },
-    ghost fit: { every point_fits points ≡ true },
+    ghost fit: { list_all point_fits points ≡ true },
 }
 
 // A window that is only read.
 #[derive(Drop)]
 pub struct ClosedWindow {
     points: [i32; POINTS],
-    ghost fit: { every point_fits points ≡ true },
-}
-
-fn fits(point: i32) -> bool
-    ensures { result ≡ point_fits point }
-{
-    point.unsigned_abs() <= LARGEST_POINT
+    ghost fit: { list_all point_fits points ≡ true },
 }
 
 impl GatheringWindow {
@@ -48,7 +44,7 @@ impl GatheringWindow {
 
     // Gathers one point more.
     pub fn add(&mut self, point: i32) -> Result<(), WindowRefusal>
-        ensures answer { refusal_in result ≡ point_refusal (take self.old.sent self.old.points) point }
+        ensures answer { result_err result ≡ point_refusal (take self.old.sent self.old.points) point }
         ensures gathered { take self.new.sent self.new.points ≡ cond (is_ok result)
             (take self.old.sent self.old.points ++ point ∷ [])
             (take self.old.sent self.old.points) }
@@ -57,7 +53,7 @@ impl GatheringWindow {
         if self.sent >= POINTS {
             return Err(WindowRefusal::Full);
         }
-        if !fits(point) {
+        if !is_within::<LARGEST_POINT>(point) {
             return Err(WindowRefusal::PointRange);
         }
         self.points[self.sent] = point;

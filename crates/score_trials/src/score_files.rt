@@ -11,9 +11,13 @@ fn check_text(
     printed: &str,
     failed: bool,
 ) -> Result<(), Fail> {
-    let report = report_score(heap, text)?;
-    assert_eq!(rt; report.text.as_str(), printed);
-    assert_eq!(rt; report.failed, failed);
+    let report = report_score(heap, text);
+    assert_eq!(rt; report.is_err(), failed);
+    let found = match report {
+        Ok(text) => text,
+        Err(fault) => format!(in heap; "{fault}\n")?,
+    };
+    assert_eq!(rt; found.as_str(), printed);
     Ok(())
 }
 

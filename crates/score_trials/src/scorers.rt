@@ -1,4 +1,5 @@
-use score::{AnyScorer, Band, Blend, Historic, PlainScorer, Precision, Scorer};
+use score::{AnyScorer, Band, Blend, Historic, Performance, PlainScorer, Precision, Scorer};
+use std::array;
 use std::process::Abort;
 
 fn check_score<S: Scorer>(
@@ -9,7 +10,12 @@ fn check_score<S: Scorer>(
     historic: u32,
     score: u32,
 ) {
-    assert_eq!(rt; scorer.score(assigned, errors, historic), score);
+    let performance = Performance {
+        assigned,
+        errors,
+        historic,
+    };
+    assert_eq!(rt; scorer.score(&performance), score);
 }
 
 // The score by each plain scorer, by itself and as chosen at run time.
@@ -35,11 +41,13 @@ fn check_each(
 
 // Eight errors of a tenth of 1,000 kW and the others larger: precision 2,500 and band 2,666.
 fn eight_within() -> [u64; 30] {
-    let mut errors = [9_863_636; 30];
-    for place in 0..8 {
-        errors[3 * place] = 1_000_000;
-    }
-    errors
+    array::from_fn(|place| {
+        if place < 24 && place % 3 == 0 {
+            1_000_000
+        } else {
+            9_863_636
+        }
+    })
 }
 
 fn check_blend(rt: &impl Abort, weight: u32, score: u32) {

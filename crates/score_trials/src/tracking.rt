@@ -1,6 +1,8 @@
+use refusals::Refusal;
 use score::{
-    ClosedWindow, GatheringWindow, SignalRefusal, WindowRefusal, gather, mileage, tracking_errors,
+    ClosedWindow, GatheringWindow, Signal, SignalRefusal, WindowRefusal, gather, tracking_errors,
 };
+use std::array;
 use std::process::Abort;
 use std::test::Fail;
 
@@ -19,20 +21,12 @@ fn swing(first: i32, second: i32) -> [i32; 150] {
 
 // 10,000 and -10,000 by turns.
 fn widest() -> [i32; 150] {
-    let mut readings = [10_000; 150];
-    for pair in 0..75 {
-        readings[2 * pair + 1] = -10_000;
-    }
-    readings
+    array::from_fn(|place| if place % 2 == 0 { 10_000 } else { -10_000 })
 }
 
 // Reading k is 10 k.
 fn ramp() -> [i32; 150] {
-    let mut readings = [0; 150];
-    for place in 0..150 {
-        readings[place] = 10 * (place as i32 + 1);
-    }
-    readings
+    array::from_fn(|place| 10 * (place as i32 + 1))
 }
 
 // Zeros, and one other reading at the end.
@@ -48,7 +42,8 @@ fn check_mileage(
     readings: &[i32],
     answer: Result<(u32, i32), SignalRefusal>,
 ) {
-    assert_eq!(rt; mileage(previous, readings), answer);
+    let signal = Signal { previous, readings };
+    assert_eq!(rt; signal.mileage(), answer);
 }
 
 #[test]
@@ -105,10 +100,7 @@ fn windows(rt: HostRuntime) {
 }
 
 fn check_gather(rt: &impl Abort, points: &[i32], answer: Result<[i32; 30], WindowRefusal>) {
-    let found = match gather(points) {
-        Ok(window) => Ok(*window.points()),
-        Err(refusal) => Err(refusal),
-    };
+    let found = gather(points).map(|window| *window.points());
     assert_eq!(rt; found, answer);
 }
 
@@ -131,17 +123,18 @@ fn gathered(rt: HostRuntime) {
 }
 
 fn closed(points: &[i32]) -> Result<ClosedWindow, Fail> {
-    match gather(points) {
-        Ok(window) => Ok(window),
-        Err(_) => Err(Fail::new("the points are refused")),
-    }
+    gather(points).map_err(|_| Fail::new("the points are refused"))
 }
 
 #[test]
 fn errors(rt: HostRuntime) -> Result<(), Fail> {
     // point 1 against reading 0, point 2 against reading 5, point 30 against reading 145: not 5, 10 and 150
     let window = closed(&[0, 7, -3])?;
-    let errors = tracking_errors(&window, 1_000, -7, &ramp());
+    let signal = Signal {
+        previous: -7,
+        readings: &ramp(),
+    };
+    let errors = tracking_errors(&window, 1_000, &signal);
     assert_eq!(rt; errors[0], 7_000);
     assert_eq!(rt; errors[1], 20_000);
     assert_eq!(rt; errors[2], 130_000);
@@ -149,7 +142,11 @@ fn errors(rt: HostRuntime) -> Result<(), Fail> {
     assert_eq!(rt; errors[29], 1_450_000);
     // the largest error that points and readings in their ranges can have
     let far = closed(&[-1_000_000; 30])?;
-    let largest = tracking_errors(&far, 200_000, 10_000, &still(10_000));
+    let signal = Signal {
+        previous: 10_000,
+        readings: &still(10_000),
+    };
+    let largest = tracking_errors(&far, 200_000, &signal);
     assert_eq!(rt; largest, [12_000_000_000; 30]);
     Ok(())
 }

@@ -3,10 +3,8 @@ use Rattle.std.proofs.Common.{◌≡◌, ℕ, ◌+◌, ◌<◌, ◌≤◌, List,
 use Rattle.std.proofs.lemmas.List.{get_or-map, get_or_past, length-map}
 use Rattle.lines.specs.Reads.{Worded}
 use Rattle.scorefile.specs.Form.{Fits, expected_at}
-use Rattle.scorefile.specs.Faults.{Begins, WellWorded, line_at, WellUpTo, WordFound, Stands, Unfit, Wrong, WrongWords, WrongLines}
+use Rattle.scorefile.specs.Faults.{Begins, WellWorded, line_at, WellUpTo, WrongWords, WrongLines}
 use Rattle.scorefile.specs.declared.form.Expected.{Expected}
-use Rattle.scorefile.specs.declared.fault.Found.{Found}
-use Rattle.scorefile.specs.declared.fault.Found.TheVariants as found
 use Rattle.scorefile.specs.declared.fault.FileFault.{FileFault}
 use Rattle.scorefile.specs.declared.fault.FileFault.TheVariants.{Misread, NoMemory}
 
@@ -22,22 +20,6 @@ mapped_past f xs i d h = get_or_past (map f xs) i d (omega (arith, length-map xs
 pub begins_more : (l : ℕ) (words : List (List ℕ)) (k : ℕ) (e : Expected) (word : List ℕ) → get_or words k [] ≡ word → e ≡ expected_at l k → Begins l words k → Fits e word → Begins l words (k + 1)
 begins_more l words k e word at is so_far fit =
     below_more (λ j. Fits (expected_at l j) (get_or words j [])) k so_far (subst (λ x. Fits x (get_or words k [])) is (subst (Fits e) (sym at) fit))
-
-word_stands : (words : List (List ℕ)) (k : ℕ) (word : List ℕ) (f : Found) → k < length words → get_or words k [] ≡ word → WordFound word f → Stands words k f
-word_stands words k word (found.Word w) h at is = (h, is ∙ sym at)
-word_stands words k word found.LineEnd h at is = absurd is
-word_stands words k word found.FileEnd h at is = absurd is
-
-word_unfit : (e : Expected) (word : List ℕ) (f : Found) → WordFound word f → (Fits e word → ⊥) → Unfit e f
-word_unfit e word (found.Word w) is none = λ q. none (subst (Fits e) is q)
-word_unfit e word found.LineEnd is none = absurd is
-word_unfit e word found.FileEnd is none = absurd is
-
--- the first word that is not what is expected
-pub first_wrong : (l number : ℕ) (words : List (List ℕ)) (k : ℕ) (e : Expected) (word : List ℕ) (f : FileFault) → k < length words → get_or words k [] ≡ word → e ≡ expected_at l k → Begins l words k → (Fits e word → ⊥) → Wrong number e word f → WrongWords l number words f
-first_wrong l number words k e word (Misread m) h at is so_far none w =
-    (k, so_far, w.0, w.1 ∙ is, word_stands words k word m.found h at w.2, subst (λ x. Unfit x m.found) (sym w.1) (word_unfit e word m.found w.2 none))
-first_wrong l number words k e word NoMemory h at is so_far none w = tt
 
 -- one line more is of its form
 pub well_more : (lines : List Worded) (l : ℕ) (words : List (List ℕ)) → (line_at lines l).words ≡ words → WellUpTo lines l → WellWorded l words → WellUpTo lines (l + 1)

@@ -1,25 +1,41 @@
 -- The numbers of a line.
-use Rattle.std.proofs.Common.{◌≡◌, ℕ, suc, ◌+◌, ◌-◌, ◌<◌, false, List, [], ◌∷◌, ◌++◌, map, length, get_or, take, drop, ℤ, Some, None, Option, sym, refl, ap, ◌∙◌, subst, inl, inr, arith}
+use Rattle.std.proofs.Common.{◌≡◌, ℕ, suc, ◌-◌, false, List, [], ◌∷◌, map, length, get_or, take, drop, Some, None, Option, sym, refl, ap, ◌∙◌, subst, inl, inr, arith}
+use Rattle.std.specs.Iterator.{AlwaysYields}
+use Rattle.std.specs.Iterator.Adapters.{map_source, map_callee}
 use Rattle.std.specs.List.{AllByRecursion}
-use Rattle.std.proofs.ByRecursion.{All-get_or, All-from_get_or}
-use Rattle.std.proofs.lemmas.List.{take_more, take_rest, map_push, get_or_past}
+use Rattle.std.specs.declared.iter.Map.{Map}
+use Rattle.std.proofs.lemmas.Iterator.{YieldsList, maps}
+use denote.Param.Members.{Mut, Called}
+use Rattle.std.proofs.ByRecursion.{All-from_get_or}
+use Rattle.std.proofs.lemmas.List.{take_rest, get_or_past}
 use Rattle.std.proofs.lemmas.Bool.{true≢false, cases_lt, ne_eqb}
 use Rattle.lines.specs.Reads.{Worded}
 use Rattle.score.specs.declared.any.PlainScorer.{PlainScorer}
 use Rattle.score.specs.declared.any.PlainScorer.TheVariants as plain
 use Rattle.score.specs.declared.blend.Blend.{Blend}
-use Rattle.scorefile.specs.Form.{SignedNumber, signed_of, Named, Fits, may_end, one, many, expected_at}
+use Rattle.score.specs.Names.{Named}
+use Rattle.scorefile.specs.Form.{SignedNumber, Fits, may_end, one, many, expected_at}
 use Rattle.scorefile.specs.Faults.{WellWorded, line_at, WellFormed}
 use Rattle.scorefile.specs.Request.{Blends, Asked}
 use Rattle.scorefile.specs.declared.form.Heading.{Heading}
 use Rattle.scorefile.specs.declared.form.Expected.{Expected}
 use Rattle.scorefile.specs.declared.form.Expected.TheVariants.{More}
 
--- one number more is read
-pub number_more : (words : List (List ℕ)) (i : ℕ) (word : List ℕ) (z : ℤ) (zs more : List ℤ) → i < length words → get_or words i [] ≡ word → AllByRecursion SignedNumber words → (SignedNumber word → z ≡ signed_of word) → zs ≡ map signed_of (take i words) → more ≡ zs ++ (z ∷ []) → more ≡ map signed_of (take (i + 1) words)
-number_more words i word z zs more h at all read so_far pushed =
-    let is : z ≡ signed_of (get_or words i []) = read (subst SignedNumber at (All-get_or SignedNumber words i [] h all)) ∙ ap signed_of (sym at) in
-    pushed ∙ (λ k. so_far k ++ (is k ∷ [])) ∙ sym (map_push signed_of (take i words) (get_or words i [])) ∙ ap (map signed_of) (sym (take_more words i [] h))
+-- a chain that maps words, each of which writes a number
+module _ {S A B C R F : Type 0} (steps : S → Option A → S → Type 0) (v : A → B) (p : B → C) (P : C → Type 0) (h : C → R) (g : Mut F (A × Unit {0}) R) (f : F) (reads : (x : A) (r : R) (q : F) → P (p (v x)) → Called g f (x, tt) r q → (q ≡ f) × (r ≡ h (p (v x)))) where
+  yields : (s : Map S F) (ys : List B) → AllByRecursion P (map p ys) → AlwaysYields steps v (map_source s) ys → map_callee s ≡ f → AlwaysYields (maps steps g) (λ r. r) s (map h (map p ys))
+  yields s [] all y is = λ r t m. y m.0 (map_source t) m.1
+  yields s (word ∷ ys) all y is = (
+    λ t m. y.0 (map_source t) m.0,
+    λ r t m.
+        let k = y.1 m.0 (map_source t) m.1 in
+        let here : P (p (v m.0)) = subst (λ w. P (p w)) (sym k.0) all.0 in
+        let read = reads m.0 r (map_callee t) here (subst (λ q. Called g q (m.0, tt) r (map_callee t)) is m.2) in
+        (read.1 ∙ ap (λ w. h (p w)) k.0, yields t ys all.1 k.1 read.0),
+  )
+
+  pub reads_each : {s : Map S F} (ys : List B) (zs : List C) → zs ≡ map p ys → AllByRecursion P zs → map_callee s ≡ f → YieldsList steps v (map_source s) ys → YieldsList (maps steps g) (λ r. r) s (map h zs)
+  reads_each {s} ys zs e all is road = subst (λ l. YieldsList (maps steps g) (λ r. r) s (map h l)) (sym e) (record { runs = yields s ys (subst (AllByRecursion P) e all) road.runs is })
 
 -- the words after the heading of a line of numbers write numbers
 pub numbers_of : (l : ℕ) (words : List (List ℕ)) → ((k : ℕ) → expected_at l (suc k) ≡ More) → WellWorded l words → AllByRecursion SignedNumber (drop 1 words)

@@ -34,12 +34,6 @@ Stands words k (found.Word w) = (k < length words) × (string_bytes w ≡ slice_
 Stands words k found.LineEnd = k ≡ length words
 Stands words k found.FileEnd = ⊥
 
--- what stands there is this word
-abbrev pub WordFound : List ℕ → Found → Type 0
-WordFound word (found.Word w) = string_bytes w ≡ word
-WordFound word found.LineEnd = ⊥
-WordFound word found.FileEnd = ⊥
-
 -- it is not what is expected
 abbrev pub Unfit : Expected → Found → Type 0
 Unfit e (found.Word w) = Fits e (string_bytes w) → ⊥
@@ -52,11 +46,6 @@ abbrev pub WrongWords : ℕ → ℕ → List (List ℕ) → FileFault → Type 0
 WrongWords l number words (Misread m) =
     (k : ℕ) × Begins l words k × (m.line ≡ number) × (m.expected ≡ expected_at l k) × Stands words k m.found × Unfit m.expected m.found
 WrongWords l number words NoMemory = Unit {0}
-
--- the fault tells this line, what is expected, and the word that stands there
-abbrev pub Wrong : ℕ → Expected → List ℕ → FileFault → Type 0
-Wrong number e word (Misread m) = (m.line ≡ number) × (m.expected ≡ e) × WordFound word m.found
-Wrong number e word NoMemory = Unit {0}
 
 -- the file ends where a line is needed, after these
 abbrev pub Ended : List Worded → FileFault → Type 0

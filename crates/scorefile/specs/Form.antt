@@ -3,7 +3,7 @@ use Rattle.std.specs.Prelude.{◌≡◌, ℕ, ◌^◌, ◌<◌, Bool, true, fals
 use Rattle.std.specs.Int.{w32}
 use Rattle.std.specs.Str.Parse.{IsNumeral, digits_value, without_leading_plus, without_leading_sign, signed_digits_value}
 use Rattle.score.specs.declared.any.PlainScorer.{PlainScorer}
-use Rattle.score.specs.declared.any.PlainScorer.TheVariants as plain
+use Rattle.score.specs.Names.{Named}
 use Rattle.scorefile.specs.declared.form.Heading.{Heading}
 use Rattle.scorefile.specs.declared.form.Heading.TheVariants as heading
 use Rattle.scorefile.specs.declared.form.Expected.{Expected}
@@ -33,16 +33,6 @@ SignedNumber word = IsNumeral 10 (without_leading_sign word) × FitsSigned w32 (
 -- the number that such a word writes
 abbrev pub signed_of : List ℕ → ℤ
 signed_of word = signed_digits_value 10 word
-
--- the word is the name of the scorer
-abbrev pub Named : List ℕ → PlainScorer → Type 0
-Named word plain.Precision = word ≡ codes "precision"
-Named word plain.Band = word ≡ codes "band"
-Named word plain.Historic = word ≡ codes "historic"
-
--- the word is no scorer's name
-abbrev pub NoName : List ℕ → Type 0
-NoName word = (s : PlainScorer) → Named word s → ⊥
 
 -- the word is what is expected
 abbrev pub Fits : Expected → List ℕ → Type 0

@@ -1,3 +1,4 @@
 pub mod Form
 pub mod Faults
 pub mod Request
+pub mod Texts

@@ -3,7 +3,8 @@ use Rattle.std.specs.Prelude.{◌≡◌, ℕ, ◌⊎◌, List, [], map, drop, So
 use Rattle.lines.specs.Reads.{Worded, Reads}
 use Rattle.score.specs.declared.any.PlainScorer.{PlainScorer}
 use Rattle.score.specs.declared.blend.Blend.{Blend}
-use Rattle.scorefile.specs.Form.{WholeNumber, whole_of, signed_of, Named, NoName}
+use Rattle.scorefile.specs.Form.{WholeNumber, whole_of, signed_of}
+use Rattle.score.specs.Names.{Named, NoName}
 use Rattle.scorefile.specs.Faults.{line_at, WellFormed, WrongLines}
 use Rattle.scorefile.specs.declared.fault.FileFault.{FileFault}
 use Rattle.scorefile.specs.declared.fault.FileFault.TheVariants.{Misread, NoMemory}

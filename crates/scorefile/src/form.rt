@@ -1,11 +1,13 @@
 // The form of a score file: what is expected at each place of each of its lines.
-ghost use Rattle.std.specs.Prelude.{◌≡◌, Decides, MatchOption};
-ghost use Rattle.scorefile.specs.Form.{heading_word, Named, NoName, WholeNumber, SignedNumber, Fits, may_end, one, many, blend_form, expected_at};
+ghost use Rattle.std.specs.Prelude.{◌≡◌, Decides, Some};
+ghost use Rattle.scorefile.specs.Form.{heading_word, Fits, may_end, one, many, blend_form, expected_at};
+ghost use Rattle.scorefile.specs.Texts.{heading_text, expected_text};
 
 use score::PlainScorer;
+use std::fmt;
 
 // The lines of the file, in their order, named by the word with which each begins.
-#[derive(Clone, Copy)]
+#[derive(Clone, Copy, Debug)]
 pub enum Heading {
     Assigned,
     Historic,
@@ -15,8 +17,57 @@ pub enum Heading {
     Blend,
 }
 
+impl Heading {
+    // The word with which the line begins.
+    pub fn word(self) -> &'static str
+        ensures { result.now ≡ heading_word self }
+    {
+        match self {
+            Heading::Assigned => "assigned",
+            Heading::Historic => "historic",
+            Heading::Previous => "previous",
+            Heading::Signal => "signal",
+            Heading::Points => "points",
+            Heading::Blend => "blend",
+        }
+    }
+
+    // A line of one word after its heading.
+    fn then_one(self, expected: Expected, place: usize) -> Expected
+        ensures { result ≡ one self expected place }
+    {
+        match place {
+            0 => Expected::Heading(self),
+            1 => expected,
+            _ => Expected::LineEnd,
+        }
+    }
+
+    // A line of any number of numbers after its heading.
+    fn then_many(self, place: usize) -> Expected
+        ensures { result ≡ many self place }
+    {
+        match place {
+            0 => Expected::Heading(self),
+            _ => Expected::More,
+        }
+    }
+}
+
+impl fmt::Display for Heading {
+    ghost output = { λ h. Some (heading_text h) };
+
+    fn fmt<W: fmt::Write>(&self, f: &mut fmt::Formatter<W>) -> fmt::Result {
+        write!(f, "the word '{}'", self.word())?;
+        match self {
+            Heading::Blend => f.write_str(" or the end of the file"),
+            _ => Ok(()),
+        }
+    }
+}
+
 // What is expected at a place of a line.
-#[derive(Clone, Copy)]
+#[derive(Clone, Copy, Debug)]
 pub enum Expected {
     Heading(Heading),
     // A whole number from 0 to 4294967295.
@@ -31,87 +82,58 @@ pub enum Expected {
     FileEnd,
 }
 
-fn word_of(heading: Heading) -> &'static str
-    ensures { result.now ≡ heading_word heading }
-{
-    match heading {
-        Heading::Assigned => "assigned",
-        Heading::Historic => "historic",
-        Heading::Previous => "previous",
-        Heading::Signal => "signal",
-        Heading::Points => "points",
-        Heading::Blend => "blend",
+impl Expected {
+    // What is expected at a place of a line, both counted from 0.
+    pub(crate) fn at(line: usize, place: usize) -> Expected
+        ensures { result ≡ expected_at line place }
+    {
+        match line {
+            0 => Heading::Assigned.then_one(Expected::Whole, place),
+            1 => Heading::Historic.then_one(Expected::Whole, place),
+            2 => Heading::Previous.then_one(Expected::Signed, place),
+            3 => Heading::Signal.then_many(place),
+            4 => Heading::Points.then_many(place),
+            5 => blend(place),
+            _ => Expected::FileEnd,
+        }
+    }
+
+    // Whether the word is what is expected.
+    pub(crate) fn fits(self, word: &str) -> bool
+        ensures { Decides result (Fits self word.now) }
+    {
+        match self {
+            Expected::Heading(heading) => word == heading.word(),
+            Expected::Whole => word.parse::<u32>().is_ok(),
+            Expected::Signed | Expected::More => word.parse::<i32>().is_ok(),
+            Expected::Scorer => word.parse::<PlainScorer>().is_ok(),
+            Expected::LineEnd | Expected::FileEnd => false,
+        }
+    }
+
+    // Whether a line may end where this is expected.
+    pub(crate) fn may_end(self) -> bool
+        ensures { result ≡ may_end self }
+    {
+        matches!(self, Expected::More | Expected::LineEnd)
     }
 }
 
-// The scorer of this name.
-pub(crate) fn scorer_named(word: &str) -> Option<PlainScorer>
-    ensures { MatchOption result (NoName word.now) (Named word.now) }
-{
-    match word {
-        "precision" => Some(PlainScorer::Precision),
-        "band" => Some(PlainScorer::Band),
-        "historic" => Some(PlainScorer::Historic),
-        _ => None,
-    }
-}
+impl fmt::Display for Expected {
+    ghost output = { λ e. Some (expected_text e) };
 
-fn is_whole(word: &str) -> bool
-    ensures { Decides result (WholeNumber word.now) }
-{
-    word.parse::<u32>().is_ok()
-}
-
-fn is_signed(word: &str) -> bool
-    ensures { Decides result (SignedNumber word.now) }
-{
-    word.parse::<i32>().is_ok()
-}
-
-// Whether the word is what is expected.
-pub(crate) fn fits(expected: Expected, word: &str) -> bool
-    ensures { Decides result (Fits expected word.now) }
-{
-    match expected {
-        Expected::Heading(heading) => word == word_of(heading),
-        Expected::Whole => is_whole(word),
-        Expected::Signed => is_signed(word),
-        Expected::More => is_signed(word),
-        Expected::Scorer => scorer_named(word).is_some(),
-        Expected::LineEnd => false,
-        Expected::FileEnd => false,
-    }
-}
-
-// Whether a line may end where this is expected.
-pub(crate) fn may_end(expected: Expected) -> bool
-    ensures { result ≡ may_end expected }
-{
-    match expected {
-        Expected::More => true,
-        Expected::LineEnd => true,
-        _ => false,
-    }
-}
-
-// A line of one word after its heading.
-fn one(heading: Heading, expected: Expected, place: usize) -> Expected
-    ensures { result ≡ one heading expected place }
-{
-    match place {
-        0 => Expected::Heading(heading),
-        1 => expected,
-        _ => Expected::LineEnd,
-    }
-}
-
-// A line of any number of numbers after its heading.
-fn many(heading: Heading, place: usize) -> Expected
-    ensures { result ≡ many heading place }
-{
-    match place {
-        0 => Expected::Heading(heading),
-        _ => Expected::More,
+    fn fmt<W: fmt::Write>(&self, f: &mut fmt::Formatter<W>) -> fmt::Result {
+        match self {
+            Expected::Heading(heading) => write!(f, "{heading}"),
+            Expected::Whole => f.write_str("a whole number from 0 to 4294967295"),
+            Expected::Signed => f.write_str("a whole number from -2147483648 to 2147483647"),
+            Expected::More => f.write_str(
+                "a whole number from -2147483648 to 2147483647 or the end of the line",
+            ),
+            Expected::Scorer => f.write_str("'precision', 'band' or 'historic'"),
+            Expected::LineEnd => f.write_str("the end of the line"),
+            Expected::FileEnd => f.write_str("the end of the file"),
+        }
     }
 }
 
@@ -121,23 +143,7 @@ fn blend(place: usize) -> Expected
     match place {
         0 => Expected::Heading(Heading::Blend),
         1 => Expected::Whole,
-        2 => Expected::Scorer,
-        3 => Expected::Scorer,
+        2 | 3 => Expected::Scorer,
         _ => Expected::LineEnd,
-    }
-}
-
-// What is expected at a place of a line, both counted from 0.
-pub(crate) fn expected_at(line: usize, place: usize) -> Expected
-    ensures { result ≡ expected_at line place }
-{
-    match line {
-        0 => one(Heading::Assigned, Expected::Whole, place),
-        1 => one(Heading::Historic, Expected::Whole, place),
-        2 => one(Heading::Previous, Expected::Signed, place),
-        3 => many(Heading::Signal, place),
-        4 => many(Heading::Points, place),
-        5 => blend(place),
-        _ => Expected::FileEnd,
     }
 }

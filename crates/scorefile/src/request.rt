@@ -1,13 +1,12 @@
-ghost use Rattle.std.specs.Prelude.{◌≡◌, [], map, drop, pos, IfOk, string_bytes, MatchResult, slice_index_or};
+ghost use Rattle.std.specs.Prelude.{◌≡◌, [], map, drop, IfOk, string_bytes, MatchResult, slice_index_or};
 ghost use Rattle.std.specs.List.{AllByRecursion};
 ghost use Rattle.lines.specs.Reads.{worded};
 ghost use Rattle.scorefile.specs.Faults.{line_at, WellFormed};
-ghost use Rattle.scorefile.specs.Form.{WholeNumber, whole_of, SignedNumber, signed_of};
+ghost use Rattle.scorefile.specs.Form.{SignedNumber, signed_of};
 ghost use Rattle.scorefile.specs.Request.{Asked, Says, TextSays, TextLacks};
 
 use crate::check::check_lines;
 use crate::fault::FileFault;
-use crate::form::scorer_named;
 use lines::{Line, read_lines};
 use score::{Blend, PlainScorer};
 use std::alloc::{AllocError, Global};
@@ -28,74 +27,35 @@ pub struct ScoreRequest {
 fn words_at(lines: &[Line], place: usize) -> &[String]
     ensures { map string_bytes result.now ≡ (line_at (map worded lines.now) place).words }
 {
-    match lines.get(place) {
-        Some(line) => line.words.as_slice(),
-        None => &[],
-    }
+    lines.get(place).map_or(&[], |line| line.words.as_slice())
 }
 
 // The word at a place; an empty one where there is no such word.
 fn word_at(words: &[String], place: usize) -> &str
     ensures { result.now ≡ slice_index_or (map string_bytes words.now) place [] }
 {
-    match words.get(place) {
-        Some(word) => word.as_str(),
-        None => "",
-    }
-}
-
-// The number that a word writes; 0 where it writes none.
-fn whole(word: &str) -> u32
-    ensures value { WholeNumber word.now → result ≡ whole_of word.now }
-    ensures none { (WholeNumber word.now → ⊥) → result ≡ 0 }
-{
-    match word.parse::<u32>() {
-        Ok(number) => number,
-        Err(_) => 0,
-    }
-}
-
-// The same with a sign.
-fn signed(word: &str) -> i32
-    ensures value { SignedNumber word.now → result ≡ signed_of word.now }
-    ensures none { (SignedNumber word.now → ⊥) → result ≡ pos 0 }
-{
-    match word.parse::<i32>() {
-        Ok(number) => number,
-        Err(_) => 0,
-    }
-}
-
-// The numbers that words write.
-fn numbers(heap: Global, words: &[String]) -> Result<Vec<i32>, AllocError>
-    requires { AllByRecursion SignedNumber (map string_bytes words.now) }
-    ensures { IfOk result (λ v. v.items ≡ map signed_of (map string_bytes words.now)) }
-{
-    let mut all = Vec::new(heap);
-    for word in words {
-        all.push(signed(word.as_str()))?;
-    }
-    Ok(all)
+    words.get(place).map_or("", |word| word.as_str())
 }
 
 // The numbers after the heading of a line.
-fn list(heap: Global, words: &[String]) -> Result<Vec<i32>, AllocError>
+fn numbers(heap: Global, words: &[String]) -> Result<Vec<i32>, AllocError>
     requires { AllByRecursion SignedNumber (drop 1 (map string_bytes words.now)) }
     ensures { IfOk result (λ v. v.items ≡ map signed_of (drop 1 (map string_bytes words.now))) }
 {
-    match words {
-        [] => Ok(Vec::new(heap)),
-        [_, rest @ ..] => numbers(heap, rest),
-    }
+    words
+        .iter()
+        .skip(1)
+        .map(|word| word.parse().unwrap_or(0))
+        .collect(heap)
 }
 
 // The blend that the words of a line ask for.
 fn blend_of(words: &[String]) -> Option<Blend<PlainScorer, PlainScorer>>
     ensures { Asked (map string_bytes words.now) result }
 {
-    let first = scorer_named(word_at(words, 2))?;
-    let second = scorer_named(word_at(words, 3))?;
-    let weight = whole(word_at(words, 1));
+    let first = word_at(words, 2).parse().ok()?;
+    let second = word_at(words, 3).parse().ok()?;
+    let weight = word_at(words, 1).parse().unwrap_or(0);
     Some(Blend {
         first,
         second,
@@ -108,12 +68,12 @@ fn request_of(heap: Global, lines: &[Line]) -> Result<ScoreRequest, AllocError>
     requires { WellFormed (map worded lines.now) }
     ensures { IfOk result (Says (map worded lines.now)) }
 {
-    let readings = list(heap, words_at(lines, 3))?;
-    let points = list(heap, words_at(lines, 4))?;
+    let readings = numbers(heap, words_at(lines, 3))?;
+    let points = numbers(heap, words_at(lines, 4))?;
     Ok(ScoreRequest {
-        assigned: whole(word_at(words_at(lines, 0), 1)),
-        historic: whole(word_at(words_at(lines, 1), 1)),
-        previous: signed(word_at(words_at(lines, 2), 1)),
+        assigned: word_at(words_at(lines, 0), 1).parse().unwrap_or(0),
+        historic: word_at(words_at(lines, 1), 1).parse().unwrap_or(0),
+        previous: word_at(words_at(lines, 2), 1).parse().unwrap_or(0),
         readings,
         points,
         blend: blend_of(words_at(lines, 5)),

@@ -1,6 +1,7 @@
 -- What a score sheet says.
-use Rattle.std.specs.Prelude.{◌≡◌, ℕ, ◌+◌, List, length, Some, None, vec_items, Option, slice_index}
+use Rattle.std.specs.Prelude.{◌≡◌, ℕ, ◌+◌, List, length, vec_items, Option, slice_index}
 use Rattle.std.specs.List.{IsFirstMaxByKey}
+use Rattle.std.specs.Option.{option_map}
 use Rattle.score.specs.Choices.{plain_rating}
 use Rattle.score.specs.Errors.{errors}
 use Rattle.score.specs.Scores.{precision, band, historic, blended}
@@ -22,8 +23,8 @@ Largest es l = (k : ℕ) × (l.point ≡ k + 1) × IsFirstMaxByKey (λ e. e) es 
 
 -- the score by a blend, if one is asked for
 abbrev pub blend_score : Option (Blend PlainScorer PlainScorer) → ℕ → List ℕ → ℕ → Option ℕ
-blend_score None a es h = None
-blend_score (Some b) a es h = Some (blended b.weight (plain_rating b.first a es h) (plain_rating b.second a es h))
+blend_score blend a es h =
+    option_map (λ b. blended b.weight (plain_rating b.first a es h) (plain_rating b.second a es h)) blend
 
 -- the sheet of a request
 pub record Sheet (q : ScoreRequest) (s : ScoreSheet) : Type 0 where

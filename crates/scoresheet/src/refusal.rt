@@ -1,17 +1,22 @@
 ghost use Rattle.std.specs.Prelude.{◌≡◌};
+ghost use Rattle.std.proofs.Common.{rules};
 ghost use Rattle.scoresheet.specs.declared.refusal.ScoreRefusal.TheVariants as refused;
 ghost use Rattle.scoresheet.specs.Refusals.{score_number};
 
+use refusals::Refusal;
 use score::{SignalRefusal, WindowRefusal};
+use thiserror::Error;
 
 // Why there are no scores.
-#[derive(Clone, Copy)]
+#[derive(Clone, Copy, PartialEq, Eq, Debug, Error)]
 pub enum ScoreRefusal {
-    // The kW assigned are outside 100 to 200,000.
+    #[error("the kW assigned are outside 100 to 200000")]
     Assigned,
-    // The historic score is above 10,000.
+    #[error("the historic score is above 10000")]
     Historic,
+    #[error(transparent)]
     Signal(SignalRefusal),
+    #[error(transparent)]
     Window(WindowRefusal),
 }
 
@@ -31,11 +36,12 @@ impl From<WindowRefusal> for ScoreRefusal {
     }
 }
 
-impl ScoreRefusal {
-    // The number of the refusal.
-    pub fn number(self) -> u8
-        ensures { result ≡ score_number self }
-    {
+impl Refusal for ScoreRefusal {
+    ghost row = { score_number };
+
+    ghost in_table = { Prim.search rules };
+
+    fn number(self) -> u8 {
         match self {
             ScoreRefusal::Assigned => 6,
             ScoreRefusal::Historic => 6,

@@ -1,14 +1,13 @@
-ghost use Rattle.std.specs.Prelude.{◌≡◌, ◌<◌, length, IfOk, MatchResult};
-ghost use Rattle.std.specs.List.{IsFirstMaxByKey};
-ghost use Rattle.score.specs.Refusals.{refusal_in};
+ghost use Rattle.std.specs.Prelude.{◌≡◌, IfOk, MatchResult};
+ghost use Rattle.std.specs.Result.{result_err};
 ghost use Rattle.score.specs.Signals.{mileage_of, last_of};
 ghost use Rattle.scoresheet.specs.Refusals.{sheet_refusal};
 ghost use Rattle.scoresheet.specs.Sheet.{request_errors, Largest, blend_score, Sheet};
 
 use crate::refusal::ScoreRefusal;
 use score::{
-    Band, Blend, FULL_SCORE, Historic, LARGEST_ASSIGNED, POINTS, PlainScorer, Precision, READINGS,
-    SMALLEST_ASSIGNED, Scorer, SignalRefusal, gather, mileage, tracking_errors,
+    Band, Blend, FULL_SCORE, Historic, LARGEST_ASSIGNED, POINTS, Performance, PlainScorer,
+    Precision, SMALLEST_ASSIGNED, Scorer, Signal, gather, tracking_errors,
 };
 use scorefile::ScoreRequest;
 
@@ -39,64 +38,54 @@ struct Tracking {
     errors: [u64; POINTS],
 }
 
-// The first place at which an error is largest.
-fn largest_place(errors: &[u64]) -> usize
-    requires { 0 < length errors.now }
-    ensures { IsFirstMaxByKey (λ e. e) errors.now (length errors.now) result }
-{
-    let mut best = 0;
-    for place in 1..errors.len() {
-        if errors[place] > errors[best] {
-            best = place;
-        }
-    }
-    best
-}
-
 fn largest_error(errors: &[u64; POINTS]) -> LargestError
     ensures { Largest errors.now result }
 {
-    let place = largest_place(errors);
-    LargestError {
-        point: place + 1,
-        error: errors[place],
+    let mut largest = LargestError {
+        point: 1,
+        error: errors[0],
+    };
+    for (place, error) in errors.iter().enumerate() {
+        if *error > largest.error {
+            largest = LargestError {
+                point: place + 1,
+                error: *error,
+            };
+        }
     }
+    largest
 }
 
 // The score by a blend, if one is asked for.
 fn blend_score(
     blend: Option<Blend<PlainScorer, PlainScorer>>,
-    assigned: u32,
-    errors: &[u64],
-    historic: u32,
+    performance: &Performance,
 ) -> Option<u32>
-    ensures { result ≡ blend_score blend assigned errors.now historic }
+    ensures { result ≡ blend_score blend performance.now.assigned performance.now.errors.now performance.now.historic }
 {
-    match blend {
-        Some(blend) => Some(blend.score(assigned, errors, historic)),
-        None => None,
-    }
+    Some(blend?.score(performance))
 }
 
 // Follows the signal with the points of a request, or refuses them.
 fn track(request: &ScoreRequest) -> Result<Tracking, ScoreRefusal>
-    ensures answer { refusal_in result ≡ sheet_refusal request.now }
+    ensures answer { result_err result ≡ sheet_refusal request.now }
     ensures tracked { MatchResult result
         (λ t. (t.mileage ≡ mileage_of request.now.previous request.now.readings.items) × (t.last ≡ last_of request.now.previous request.now.readings.items) × (t.errors ≡ request_errors request.now))
         (λ _. Unit {0}) }
 {
-    if request.assigned < SMALLEST_ASSIGNED || request.assigned > LARGEST_ASSIGNED {
+    if !(SMALLEST_ASSIGNED..=LARGEST_ASSIGNED).contains(&request.assigned) {
         return Err(ScoreRefusal::Assigned);
     }
     if request.historic > FULL_SCORE {
         return Err(ScoreRefusal::Historic);
     }
-    let Ok(readings) = <[i32; READINGS]>::try_from(request.readings.as_slice()) else {
-        return Err(ScoreRefusal::Signal(SignalRefusal::ReadingCount));
+    let signal = Signal {
+        previous: request.previous,
+        readings: request.readings.as_slice(),
     };
-    let (mileage, last) = mileage(request.previous, &readings)?;
+    let (mileage, last) = signal.mileage()?;
     let window = gather(request.points.as_slice())?;
-    let errors = tracking_errors(&window, request.assigned, request.previous, &readings);
+    let errors = tracking_errors(&window, request.assigned, &signal);
     Ok(Tracking {
         mileage,
         last,
@@ -106,20 +95,22 @@ fn track(request: &ScoreRequest) -> Result<Tracking, ScoreRefusal>
 
 // The sheet of a request, or the first refusal that it meets.
 pub fn score_sheet(request: &ScoreRequest) -> Result<ScoreSheet, ScoreRefusal>
-    ensures answer { refusal_in result ≡ sheet_refusal request.now }
+    ensures answer { result_err result ≡ sheet_refusal request.now }
     ensures sheet { IfOk result (Sheet request.now) }
 {
     let tracking = track(request)?;
-    let errors = tracking.errors;
-    let assigned = request.assigned;
-    let historic = request.historic;
+    let performance = Performance {
+        assigned: request.assigned,
+        errors: &tracking.errors,
+        historic: request.historic,
+    };
     Ok(ScoreSheet {
         mileage: tracking.mileage,
         last: tracking.last,
-        largest: largest_error(&errors),
-        precision: Precision.score(assigned, &errors, historic),
-        band: Band.score(assigned, &errors, historic),
-        historic: Historic.score(assigned, &errors, historic),
-        blend: blend_score(request.blend, assigned, &errors, historic),
+        largest: largest_error(&tracking.errors),
+        precision: Precision.score(&performance),
+        band: Band.score(&performance),
+        historic: Historic.score(&performance),
+        blend: blend_score(request.blend, &performance),
     })
 }

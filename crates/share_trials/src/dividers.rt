@@ -1,4 +1,5 @@
 use divide::{AnyDivider, DivideRefusal, Divider, Remainders, Running, weight_sum};
+use refusals::Refusal;
 use std::alloc::Global;
 use std::process::Abort;
 use std::test::Fail;

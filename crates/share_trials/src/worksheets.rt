@@ -21,9 +21,13 @@ fn check_printed(
     failed: bool,
 ) -> Result<(), Fail> {
     let words = words_of(heap, line)?;
-    let report = report_share(heap, words.as_slice())?;
-    assert_eq!(rt; report.text.as_str(), text);
-    assert_eq!(rt; report.failed, failed);
+    let report = report_share(heap, words.as_slice());
+    assert_eq!(rt; report.is_err(), failed);
+    let printed = match report {
+        Ok(text) => text,
+        Err(fault) => format!(in heap; "{fault}\n")?,
+    };
+    assert_eq!(rt; printed.as_str(), text);
     Ok(())
 }
 

@@ -27,21 +27,7 @@ Says (word ∷ words) q = Whole 64 word × (q.total ≡ number_of word) × Weigh
 abbrev pub Unfit : ℕ → List ℕ → List ℕ → Type 0
 Unfit bits word found = (found ≡ word) × (Whole bits word → ⊥)
 
--- what keeps a word from writing a total; want of memory may come at any time
-abbrev pub NoTotalIn : List ℕ → RequestFault → Type 0
-NoTotalIn word NoTotal = ⊥
-NoTotalIn word (NotATotal found) = Unfit 64 word (string_bytes found)
-NoTotalIn word (NotAWeight k found) = ⊥
-NoTotalIn word NoMemory = Unit {0}
-
--- what keeps the word at a place from writing a weight
-abbrev pub NoWeightIn : ℕ → List ℕ → RequestFault → Type 0
-NoWeightIn place word NoTotal = ⊥
-NoWeightIn place word (NotATotal found) = ⊥
-NoWeightIn place word (NotAWeight k found) = (k ≡ place) × Unfit 32 word (string_bytes found)
-NoWeightIn place word NoMemory = Unit {0}
-
--- what keeps words from writing weights: the first of them that does not
+-- what keeps words from writing weights: the first of them that does not; want of memory may come at any time
 abbrev pub NoWeightsIn : List (List ℕ) → RequestFault → Type 0
 NoWeightsIn words NoTotal = ⊥
 NoWeightsIn words (NotATotal found) = ⊥
@@ -55,6 +41,6 @@ Lacks [] (NotATotal found) = ⊥
 Lacks [] (NotAWeight k found) = ⊥
 Lacks [] NoMemory = Unit {0}
 Lacks (word ∷ words) NoTotal = ⊥
-Lacks (word ∷ words) (NotATotal found) = NoTotalIn word (NotATotal found)
+Lacks (word ∷ words) (NotATotal found) = Unfit 64 word (string_bytes found)
 Lacks (word ∷ words) (NotAWeight k found) = Whole 64 word × NoWeightsIn words (NotAWeight k found)
 Lacks (word ∷ words) NoMemory = Unit {0}

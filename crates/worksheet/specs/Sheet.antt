@@ -1,13 +1,20 @@
 -- What a sheet of shares says.
-use Rattle.std.specs.Prelude.{◌≡◌, ℕ, ◌*◌, ◌/◌, ◌%◌, List, map, length, vec_items, sum, slice_index}
+use Rattle.std.specs.Prelude.{◌≡◌, ℕ, Some, ◌*◌, ◌/◌, ◌%◌, List, map, length, vec_items, sum, slice_index}
 use Rattle.std.specs.List.{range_with_len}
-use Rattle.divide.specs.Refusals.{number, refusal}
+use Rattle.divide.specs.Refusals.{refusal, Shareable}
+use Rattle.divide.specs.Exact.{Exact}
 use Rattle.divide.specs.Remainders.{remainders}
 use Rattle.divide.specs.Running.{running}
 use Rattle.worksheet.specs.declared.fault.SheetFault.{SheetFault}
 use Rattle.worksheet.specs.declared.fault.SheetFault.TheVariants.{Refused, NoMemory}
 use Rattle.worksheet.specs.declared.sheet.ShareLine.{ShareLine}
 use Rattle.worksheet.specs.declared.sheet.ShareSheet.{ShareSheet}
+
+-- the column holds the shares of t among ws by a rule, and they are exact
+pub record Column (shares : ℕ → List ℕ → List ℕ) (t : ℕ) (ws column : List ℕ) : Type 0 where
+  pub shareable : Shareable t ws
+  pub is : column ≡ shares t ws
+  pub exact : Exact t ws column
 
 -- the line of place k: the exact proportion t × w / W as a whole part and a remainder over W, and both shares
 abbrev pub line : ℕ → List ℕ → ℕ → ShareLine
@@ -29,5 +36,5 @@ pub record Sheet (t : ℕ) (ws : List ℕ) (s : ShareSheet) : Type 0 where
 
 -- a refusal is the dividers' own; want of memory may come at any time
 abbrev pub Faulted : ℕ → List ℕ → SheetFault → Type 0
-Faulted t ws (Refused e) = number e ≡ refusal t ws (length ws)
+Faulted t ws (Refused e) = refusal t ws (length ws) ≡ Some e
 Faulted t ws NoMemory = Unit {0}

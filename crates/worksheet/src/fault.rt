@@ -4,11 +4,14 @@ ghost use Rattle.worksheet.specs.declared.fault.RequestFault.TheVariants as requ
 
 use divide::DivideRefusal;
 use std::alloc::{AllocError, AllocFailed};
+use thiserror::Error;
 
 // Why there is no sheet.
-#[derive(Clone, Copy)]
+#[derive(Clone, Copy, Debug, Error)]
 pub enum SheetFault {
+    #[error(transparent)]
     Refused(DivideRefusal),
+    #[error("out of memory")]
     NoMemory,
 }
 
@@ -37,29 +40,29 @@ impl<T: Drop> From<AllocFailed<T>> for SheetFault {
 }
 
 // Why words are no total and weights.
-#[derive(Drop)]
+#[derive(Debug, Drop, Error)]
 pub enum RequestFault {
     // There is no word.
+    #[error("expected a total, a whole number from 0 to 18446744073709551615, found nothing")]
     NoTotal,
     // The first word is no whole number of 64 bits.
+    #[error("expected a total, a whole number from 0 to 18446744073709551615, found '{0}'")]
     NotATotal(String),
     // The word of the weight at this place is the first that is no whole number of 32 bits.
+    #[error("expected a weight for place {0}, a whole number from 0 to 4294967295, found '{1}'")]
     NotAWeight(usize, String),
+    #[error("out of memory")]
     NoMemory,
 }
 
-impl From<AllocError> for RequestFault {
+impl<E> From<E> for RequestFault
+where
+    AllocError: From<E>,
+{
     ghost from_gives = { λ _ f. f ≡ requestfault.NoMemory };
 
-    fn from(_e: AllocError) -> RequestFault {
-        RequestFault::NoMemory
-    }
-}
-
-impl<T: Drop> From<AllocFailed<T>> for RequestFault {
-    ghost from_gives = { λ _ f. f ≡ requestfault.NoMemory };
-
-    fn from(_e: AllocFailed<T>) -> RequestFault {
+    fn from(e: E) -> RequestFault {
+        let AllocError = AllocError::from(e);
         RequestFault::NoMemory
     }
 }

@@ -1,8 +1,9 @@
-ghost use Rattle.std.specs.Prelude.{◌≡◌, map, string_bytes, MatchResult};
-ghost use Rattle.worksheet.specs.Request.{Whole, number_of, Weights, Says, NoTotalIn, NoWeightIn, NoWeightsIn, Lacks};
+ghost use Rattle.std.specs.Prelude.{◌≡◌, map, string_bytes, MatchResult, IfOk};
+ghost use Rattle.worksheet.specs.Request.{Weights, Says, NoWeightsIn, Lacks};
 
 use crate::fault::RequestFault;
-use std::alloc::Global;
+use std::alloc::{AllocError, Global};
+use std::str::FromStr;
 
 // A total to be shared among weights.
 #[derive(Drop)]
@@ -11,21 +12,17 @@ pub struct ShareRequest {
     pub weights: Vec<u32>,
 }
 
-fn read_total(heap: Global, word: &str) -> Result<u64, RequestFault>
-    ensures { MatchResult result (λ n. Whole 64 word.now × (n ≡ number_of word.now)) (NoTotalIn word.now) }
+// The value that a word writes, or the word where it writes none.
+fn read_word<T: FromStr + Drop>(heap: Global, word: &str) -> Result<Result<T, String>, AllocError>
+where
+    T::Err: Drop,
+    ensures { IfOk result (λ read. MatchResult read
+        (λ x. T.from_str_gives word.now (Ok x))
+        (λ found. (string_bytes found ≡ word.now) × ((e : T.Err) × T.from_str_gives word.now (Err e)))) }
 {
-    match word.parse::<u64>() {
-        Ok(total) => Ok(total),
-        Err(_) => Err(RequestFault::NotATotal(String::from_str(heap, word)?)),
-    }
-}
-
-fn read_weight(heap: Global, place: usize, word: &str) -> Result<u32, RequestFault>
-    ensures { MatchResult result (λ n. Whole 32 word.now × (n ≡ number_of word.now)) (NoWeightIn place word.now) }
-{
-    match word.parse::<u32>() {
-        Ok(weight) => Ok(weight),
-        Err(_) => Err(RequestFault::NotAWeight(place, String::from_str(heap, word)?)),
+    match word.parse::<T>() {
+        Ok(value) => Ok(Ok(value)),
+        Err(_) => Ok(Err(String::from_str(heap, word)?)),
     }
 }
 
@@ -34,7 +31,10 @@ fn read_weights(heap: Global, words: &[String]) -> Result<Vec<u32>, RequestFault
 {
     let mut weights = Vec::new(heap);
     for (place, word) in words.iter().enumerate() {
-        weights.push(read_weight(heap, place, word.as_str())?)?;
+        match read_word::<u32>(heap, word.as_str())? {
+            Ok(weight) => weights.push(weight)?,
+            Err(found) => return Err(RequestFault::NotAWeight(place, found)),
+        }
     }
     Ok(weights)
 }
@@ -46,7 +46,7 @@ pub fn read_request(heap: Global, words: &[String]) -> Result<ShareRequest, Requ
     let [first, rest @ ..] = words else {
         return Err(RequestFault::NoTotal);
     };
-    let total = read_total(heap, first.as_str())?;
+    let total = read_word::<u64>(heap, first.as_str())?.map_err(RequestFault::NotATotal)?;
     let weights = read_weights(heap, rest)?;
     Ok(ShareRequest { total, weights })
 }

@@ -1,13 +1,13 @@
-ghost use Rattle.std.specs.Prelude.{◌≡◌, ◌*◌, ◌/◌, ◌%◌, ◌^◌, ◌<◌, map, length, sum, MatchResult};
+ghost use Rattle.std.specs.Prelude.{◌≡◌, ◌<◌, map, length, sum, MatchResult, IfOk};
 ghost use Rattle.std.specs.List.{range_with_len};
 ghost use Rattle.divide.specs.Refusals.{Shareable};
 ghost use Rattle.divide.specs.Remainders.{remainders};
 ghost use Rattle.divide.specs.Running.{running};
-ghost use Rattle.worksheet.specs.Sheet.{line, Sheet, Faulted};
+ghost use Rattle.worksheet.specs.Sheet.{line, Column, Sheet, Faulted};
 
 use crate::fault::SheetFault;
 use divide::{Divider, Remainders, Running, weight_sum};
-use std::alloc::Global;
+use std::alloc::{AllocError, Global};
 
 // One place: its weight, its exact proportion `whole` and `rest` / the sum of the weights, and its share by each
 // divider.
@@ -30,18 +30,17 @@ pub struct ShareSheet {
     pub running_sum: u64,
 }
 
-// The shares by one divider, and their sum.
+// A total that both dividers share among weights.
 #[derive(Drop)]
-struct Column {
-    shares: Vec<u64>,
-    sum: u64,
-}
-
-fn share_sum(shares: &[u64]) -> u64
-    requires { sum shares.now < 2 ^ 64 }
-    ensures { result ≡ sum shares.now }
-{
-    shares.iter().sum()
+struct Shared<'a> {
+    total: u64,
+    weights: &'a [u32],
+    weight_sum: u64,
+    by_remainders: Vec<u64>,
+    by_running: Vec<u64>,
+    ghost summed: { weight_sum ≡ sum weights.now },
+    ghost first: { Column remainders total weights.now by_remainders.items },
+    ghost second: { Column running total weights.now by_running.items },
 }
 
 fn shares_by<D: Divider>(
@@ -51,70 +50,57 @@ fn shares_by<D: Divider>(
     weights: &[u32],
 ) -> Result<Vec<u64>, SheetFault>
     ensures { MatchResult result
-        (λ v. Shareable total weights.now × (v.items ≡ D.shares divider.now total weights.now))
+        (λ v. Column (D.shares divider.now) total weights.now v.items)
         (Faulted total weights.now) }
 {
-    let mut out = vec![in heap; 0; weights.len()]?;
-    divider.divide(total, weights, out.as_mut_slice())?;
-    Ok(out)
+    let mut shares = vec![in heap; 0; weights.len()]?;
+    divider.divide(total, weights, shares.as_mut_slice())?;
+    Ok(shares)
 }
 
-fn column_by<D: Divider>(
-    heap: Global,
-    divider: &D,
-    total: u64,
-    weights: &[u32],
-) -> Result<Column, SheetFault>
-    ensures { MatchResult result
-        (λ c. Shareable total weights.now × (c.shares.items ≡ D.shares divider.now total weights.now) × (c.sum ≡ total))
-        (Faulted total weights.now) }
-{
-    let shares = shares_by(heap, divider, total, weights)?;
-    let sum = share_sum(shares.as_slice());
-    Ok(Column { shares, sum })
-}
-
-// The whole part and the remainder of `total * weight / all`; 0 and the product where `all` is 0.
-fn exact_part(total: u64, weight: u32, all: u64) -> (u64, u64)
-    requires { total * weight < 2 ^ 64 }
-    ensures { (result.0 ≡ total * weight / all) × (result.1 ≡ total * weight % all) }
-{
-    let product = total * u64::from(weight);
-    if all == 0 {
-        return (0, product);
+impl<'a> Shared<'a> {
+    fn new(heap: Global, total: u64, weights: &'a [u32]) -> Result<Shared<'a>, SheetFault>
+        ensures { MatchResult result
+            (λ s. (s.total ≡ total) × (s.weights.now ≡ weights.now))
+            (Faulted total weights.now) }
+    {
+        let by_remainders = shares_by(heap, &Remainders, total, weights)?;
+        let by_running = shares_by(heap, &Running, total, weights)?;
+        let weight_sum = weight_sum(weights)?;
+        Ok(Shared {
+            total,
+            weights,
+            weight_sum,
+            by_remainders,
+            by_running,
+        })
     }
-    (product / all, product % all)
-}
 
-// A line for each place.
-fn share_lines(
-    heap: Global,
-    total: u64,
-    all: u64,
-    weights: &[u32],
-    by_remainders: &[u64],
-    by_running: &[u64],
-) -> Result<Vec<ShareLine>, SheetFault>
-    requires whole { all ≡ sum weights.now }
-    requires small { total * all < 2 ^ 63 }
-    requires first { by_remainders.now ≡ remainders total weights.now }
-    requires second { by_running.now ≡ running total weights.now }
-    ensures { MatchResult result
-        (λ v. v.items ≡ map (line total weights.now) (range_with_len 0 (length weights.now)))
-        (Faulted total weights.now) }
-{
-    let mut lines = Vec::new(heap);
-    for (place, weight) in weights.iter().enumerate() {
-        let (whole, rest) = exact_part(total, *weight, all);
-        lines.push(ShareLine {
-            weight: *weight,
-            whole,
-            rest,
-            by_remainders: by_remainders[place],
-            by_running: by_running[place],
-        })?;
+    // The line of a place. Where the weights add up to 0, the whole part is 0 and the remainder the product.
+    #[tactic(auto, using(divide::specs::Sums::product_le))]
+    fn line(&self, place: usize) -> ShareLine
+        requires { place < length self.now.weights.now }
+        ensures { result ≡ line self.now.total self.now.weights.now place }
+    {
+        let weight = self.weights[place];
+        let product = self.total * u64::from(weight);
+        ShareLine {
+            weight,
+            whole: product.checked_div(self.weight_sum).unwrap_or(0),
+            rest: product.checked_rem(self.weight_sum).unwrap_or(product),
+            by_remainders: self.by_remainders[place],
+            by_running: self.by_running[place],
+        }
     }
-    Ok(lines)
+
+    // A line for each place.
+    fn lines(&self, heap: Global) -> Result<Vec<ShareLine>, AllocError>
+        ensures { IfOk result (λ v. v.items ≡ map (line self.now.total self.now.weights.now) (range_with_len 0 (length self.now.weights.now))) }
+    {
+        (0..self.weights.len())
+            .map(|place| self.line(place))
+            .collect(heap)
+    }
 }
 
 // The sheet of a total shared among weights, or why it is not shared.
@@ -123,22 +109,12 @@ pub fn share_sheet(heap: Global, total: u64, weights: &[u32]) -> Result<ShareShe
         (λ s. Shareable total weights.now × Sheet total weights.now s)
         (Faulted total weights.now) }
 {
-    let by_remainders = column_by(heap, &Remainders, total, weights)?;
-    let by_running = column_by(heap, &Running, total, weights)?;
-    let weight_sum = weight_sum(weights)?;
-    let lines = share_lines(
-        heap,
-        total,
-        weight_sum,
-        weights,
-        by_remainders.shares.as_slice(),
-        by_running.shares.as_slice(),
-    )?;
+    let shared = Shared::new(heap, total, weights)?;
     Ok(ShareSheet {
         total,
-        weight_sum,
-        lines,
-        remainders_sum: by_remainders.sum,
-        running_sum: by_running.sum,
+        weight_sum: shared.weight_sum,
+        lines: shared.lines(heap)?,
+        remainders_sum: shared.by_remainders.iter().sum(),
+        running_sum: shared.by_running.iter().sum(),
     })
 }

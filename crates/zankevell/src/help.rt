@@ -1,4 +1,5 @@
 use crate::Failed;
+use crate::output::show;
 use std::io;
 
 const HELP: &str = "zankevell: exact settlement for a regulation pool
@@ -45,8 +46,7 @@ Examples:
 ";
 
 pub(crate) fn show_help(rt: &HostRuntime) -> Result<(), Failed> {
-    print!(rt; "{HELP}")?;
-    Ok(())
+    show(rt, HELP)
 }
 
 // Reports a command that there is none of, and shows how to call the program.

@@ -7,13 +7,15 @@ mod output;
 
 use help::{show_help, wrong_command, wrong_words};
 use input::read_input;
-use output::{out_of_memory, show};
+use output::{fail, out_of_memory, show};
 use reports::{report_score, report_share};
+use scorefile::FileFault;
 use std::process::ExitCode;
 use std::{env, io};
+use worksheet::RequestFault;
 
 // What ends the program with status 1.
-#[derive(Debug, Drop)]
+#[derive(Drop)]
 pub(crate) enum Failed {
     // The message is already written.
     Told,
@@ -28,7 +30,11 @@ impl From<io::Error> for Failed {
 }
 
 fn share(rt: &HostRuntime, words: &[String]) -> Result<(), Failed> {
-    show(rt, "share", report_share(rt.alloc(), words))
+    match report_share(rt.alloc(), words) {
+        Ok(text) => show(rt, text.as_str()),
+        Err(RequestFault::NoMemory) => out_of_memory(rt),
+        Err(fault) => fail(rt, "share", &fault),
+    }
 }
 
 fn score(rt: &HostRuntime, words: &[String]) -> Result<(), Failed> {
@@ -36,7 +42,11 @@ fn score(rt: &HostRuntime, words: &[String]) -> Result<(), Failed> {
         return wrong_words(rt, "score", "the name of one file, or - for standard input");
     };
     let text = read_input(rt, "score", name.as_str())?;
-    show(rt, "score", report_score(rt.alloc(), text.as_str()))
+    match report_score(rt.alloc(), text.as_str()) {
+        Ok(text) => show(rt, text.as_str()),
+        Err(FileFault::NoMemory) => out_of_memory(rt),
+        Err(fault) => fail(rt, "score", &fault),
+    }
 }
 
 fn run(rt: &HostRuntime) -> Result<(), Failed> {

@@ -1,15 +1,16 @@
-use Rattle.std.proofs.Common.{◌≡◌, sym, ◌∙◌, arith}
-use Rattle.std.proofs.lemmas.Bool.{cond-true, cond-false}
-use Rattle.divide.specs.Remainders.{before}
-use Rattle.divide.specs.Ranks.{one, how_many_more}
+use Rattle.std.proofs.Common.{ℕ, ◌∙◌, get_or, rules, tests}
+use Rattle.std.specs.List.{enumerate_from}
+use Rattle.std.proofs.lemmas.Iterator.{YieldsList-from_slice}
+use Rattle.std.proofs.lemmas.Iterator.Consumers.{YieldsList-from_enumerate, YieldsList-from_filter, count_from_yields_List}
+use Rattle.std.proofs.lemmas.List.Sums.{length-filter}
+use Rattle.divide.specs.Remainders.{precedes}
+use Rattle.divide.specs.Ranks.{how_many_counts}
 use Rattle.divide.proofs.remainders.places_before.Goals as goal
-use Rattle.divide.proofs.remainders.places_before.Goals.{then-comes_before, else-comes_before}
 
-pub loop-other-preserved : goal.loop-other-preserved
-loop-other-preserved c =
+pub returns : goal.returns
+returns c =
     let rs = c.args.left.now in
-    let more = how_many_more (λ j. before rs j c.args.place) c.loop-other.other in
-    elim c.if-comes_before.branch [
-      | then-comes_before w ↦ (let e : one (before rs c.loop-other.other c.args.place) ≡ 1 = cond-true _ 1 0 (sym c.comes_before.ensures ∙ w.if-comes_before.true) in (omega (arith, w.count-is), omega (arith, w.count-is)))
-      | else-comes_before w ↦ (let e : one (before rs c.loop-other.other c.args.place) ≡ 0 = cond-false _ 1 0 (sym c.comes_before.ensures ∙ w.if-comes_before.false) in (omega (arith, w.count-is), omega (arith, w.count-is)))
-    ]
+    let k = c.args.place in
+    count_from_yields_List c.filter.result _ c.count.ensures.ran (YieldsList-from_filter _ (λ (e : ℕ × ℕ). precedes e.1 e.0 (get_or rs k 0) k) (YieldsList-from_enumerate (YieldsList-from_slice rs cc) cc) c.filter.ensures.closure (λ x r q h. search (rules, tests)))
+    ∙ length-filter _ (enumerate_from 0 rs)
+    ∙ how_many_counts (λ r j. precedes r j (get_or rs k 0) k) rs

@@ -3,12 +3,6 @@ use Rattle.std.proofs.lemmas.Int.{to_z-of_z}
 use Rattle.score.proofs.Products.{fits_product}
 use Rattle.score.proofs.errors.error_of.Goals as goal
 
-pub overflow_mul-asked : goal.overflow_mul-asked
-overflow_mul-asked c =
-    let ea : to_z w64 (of_z w64 c.from.result) ≡ pos c.args.assigned = to_z-of_z w64 _ (record { sfits = c.from.type_inv }) ∙ c.from.ensures in
-    let er : to_z w64 (of_z w64 c.from-2.result) ≡ c.args.reading = to_z-of_z w64 _ (record { sfits = c.from-2.type_inv }) ∙ c.from-2.ensures ∙ to_z-of_z w32 _ c.ranges.reading in
-    rw (ea, er) (fits_product c.args.assigned c.args.reading c.ranges.assigned.fits c.ranges.reading)
-
 pub returns : goal.returns
 returns c =
     let ep : to_z w64 (of_z w64 c.from-given.result) ≡ c.args.point = to_z-of_z w64 _ (record { sfits = c.from-given.type_inv }) ∙ c.from-given.ensures ∙ to_z-of_z w32 _ c.ranges.point in

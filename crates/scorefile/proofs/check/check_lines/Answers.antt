@@ -28,7 +28,7 @@ pub returns-then-lines-lt-NEEDED : goal.returns-then-lines-lt-NEEDED
 returns-then-lines-lt-NEEDED c =
     let xs = c.args.lines.now in
     let long : length (map worded xs) ≡ length xs = length-map xs worded in
-    inr (omega (arith, long), λ l h. c.loop-place.invariant l (omega (arith, long)), c.last_number.ensures ∙ ap (λ n. (line_at (map worded xs) (n - 1)).number) (sym long), c.expected_at.ensures ∙ ap (λ n. expected_at n 0) (sym long), refl)
+    inr (omega (arith, long), λ l h. c.loop-place.invariant l (omega (arith, long)), c.last_number.ensures ∙ ap (λ n. (line_at (map worded xs) (n - 1)).number) (sym long), c.at.ensures ∙ ap (λ n. expected_at n 0) (sym long), refl)
 
 pub returns : goal.returns
 returns c =

@@ -4,6 +4,7 @@ use Rattle.score.proofs.precision.PrecisionScorer.score.Goals as goal
 
 pub total-requires : goal.total-requires
 total-requires c =
-    let es = c.args.errors.now in
-    let p = scorable_parts c.args.assigned es c.args.historic (sym c.if-not-scorable.ensures) in
+    let performance = c.args.performance.now in
+    let es = performance.errors.now in
+    let p = scorable_parts performance.assigned es performance.historic (sym c.if-not-is_scorable.ensures) in
     omega (arith, error_sum es p.3, p.2)
