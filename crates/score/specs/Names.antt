@@ -3,11 +3,14 @@ use Rattle.std.specs.Prelude.{◌≡◌, ℕ, List, codes}
 use Rattle.score.specs.declared.any.PlainScorer.{PlainScorer}
 use Rattle.score.specs.declared.any.PlainScorer.TheVariants as plain
 
+abbrev pub name_of : PlainScorer → List ℕ
+name_of plain.Precision = codes "precision"
+name_of plain.Band = codes "band"
+name_of plain.Historic = codes "historic"
+
 -- the word is the name of the scorer
 abbrev pub Named : List ℕ → PlainScorer → Type 0
-Named word plain.Precision = word ≡ codes "precision"
-Named word plain.Band = word ≡ codes "band"
-Named word plain.Historic = word ≡ codes "historic"
+Named word s = word ≡ name_of s
 
 -- the word is no scorer's name
 abbrev pub NoName : List ℕ → Type 0

@@ -1,5 +1,5 @@
-ghost use Rattle.std.specs.Prelude.{MatchResult};
-ghost use Rattle.score.specs.Names.{Named, NoName};
+ghost use Rattle.std.specs.Prelude.{Some, MatchResult};
+ghost use Rattle.score.specs.Names.{name_of, Named, NoName};
 ghost use Rattle.score.specs.Choices.{plain_rating, any_rating};
 ghost use Rattle.score.specs.Laws.{plain_bounded, plain_outside, plain_monotone};
 ghost use Rattle.score.specs.AnyLaws.{any_bounded, any_outside, any_monotone};
@@ -43,6 +43,8 @@ impl FromStr for PlainScorer {
 }
 
 impl fmt::Display for PlainScorer {
+    ghost output = { λ s. Some (name_of s) };
+
     fn fmt<W: fmt::Write>(&self, f: &mut fmt::Formatter<W>) -> fmt::Result {
         f.write_str(match self {
             PlainScorer::Precision => "precision",

@@ -23,11 +23,7 @@ fn check_text(
 
 // As many zeros, with a blank before each.
 fn zeros(heap: Global, count: usize) -> Result<String, Fail> {
-    let mut text = String::new(heap);
-    for _ in 0..count {
-        text.push_str(" 0")?;
-    }
-    Ok(text)
+    Ok(" 0".repeat(heap, count)?)
 }
 
 // The lines before the signal, a signal of 150 zeros, and the lines after it.

@@ -1,5 +1,5 @@
--- The numbers of a line.
-use Rattle.std.proofs.Common.{◌≡◌, ℕ, suc, ◌-◌, false, List, [], ◌∷◌, map, length, get_or, take, drop, Some, None, Option, sym, refl, ap, ◌∙◌, subst, inl, inr, arith}
+-- What lines of their form say.
+use Rattle.std.proofs.Common.{◌≡◌, ℕ, suc, ◌<◌, false, List, [], ◌∷◌, map, length, get_or, drop, Some, None, Option, sym, refl, ap, ◌∙◌, subst, inl, inr, arith}
 use Rattle.std.specs.Iterator.{AlwaysYields}
 use Rattle.std.specs.Iterator.Adapters.{map_source, map_callee}
 use Rattle.std.specs.List.{AllByRecursion}
@@ -7,8 +7,8 @@ use Rattle.std.specs.declared.iter.Map.{Map}
 use Rattle.std.proofs.lemmas.Iterator.{YieldsList, maps}
 use denote.Param.Members.{Mut, Called}
 use Rattle.std.proofs.ByRecursion.{All-from_get_or}
-use Rattle.std.proofs.lemmas.List.{take_rest, get_or_past}
-use Rattle.std.proofs.lemmas.Bool.{true≢false, cases_lt, ne_eqb}
+use Rattle.std.proofs.lemmas.List.{get_or_past}
+use Rattle.std.proofs.lemmas.Bool.{cases_lt, ne_eqb}
 use Rattle.lines.specs.Reads.{Worded}
 use Rattle.score.specs.declared.any.PlainScorer.{PlainScorer}
 use Rattle.score.specs.declared.any.PlainScorer.TheVariants as plain
@@ -37,56 +37,48 @@ module _ {S A B C R F : Type 0} (steps : S → Option A → S → Type 0) (v : A
   pub reads_each : {s : Map S F} (ys : List B) (zs : List C) → zs ≡ map p ys → AllByRecursion P zs → map_callee s ≡ f → YieldsList steps v (map_source s) ys → YieldsList (maps steps g) (λ r. r) s (map h zs)
   reads_each {s} ys zs e all is road = subst (λ l. YieldsList (maps steps g) (λ r. r) s (map h l)) (sym e) (record { runs = yields s ys (subst (AllByRecursion P) e all) road.runs is })
 
--- the words after the heading of a line of numbers write numbers
-pub numbers_of : (l : ℕ) (words : List (List ℕ)) → ((k : ℕ) → expected_at l (suc k) ≡ More) → WellWorded l words → AllByRecursion SignedNumber (drop 1 words)
+numbers_of : (l : ℕ) (words : List (List ℕ)) → ((k : ℕ) → expected_at l (suc k) ≡ More) → WellWorded l words → AllByRecursion SignedNumber (drop 1 words)
 numbers_of l [] more well = tt
 numbers_of l (heading ∷ words) more well =
     All-from_get_or SignedNumber words [] (λ k h. subst (λ e. Fits e (get_or words k [])) (more k) (well.0 (suc k) (omega arith)))
 
--- the word after the heading of a line of one word is what is expected
-pub one_of : (l : ℕ) (words : List (List ℕ)) (h : Heading) (e : Expected) → may_end e ≡ false → ((k : ℕ) → expected_at l k ≡ one h e k) → WellWorded l words → Fits e (get_or words 1 [])
-one_of l [] h e ends form well = absurd (true≢false (sym well.1 ∙ ap may_end (form 0)))
-one_of l (heading ∷ []) h e ends form well = absurd (true≢false (sym well.1 ∙ ap may_end (form 1) ∙ ends))
+one_of : (l : ℕ) (words : List (List ℕ)) (h : Heading) (e : Expected) → may_end e ≡ false → ((k : ℕ) → expected_at l k ≡ one h e k) → WellWorded l words → Fits e (get_or words 1 [])
+one_of l [] h e ends form well = cc (ap may_end (form 0))
+one_of l (heading ∷ []) h e ends form well = cc (ap may_end (form 1))
 one_of l (heading ∷ word ∷ words) h e ends form well = subst (λ x. Fits x word) (form 1) (well.0 1 (omega arith))
 
 nothing_named : (s : PlainScorer) → Named [] s → ⊥
-nothing_named plain.Precision e = absurd (let n = ap length e in omega arith)
-nothing_named plain.Band e = absurd (let n = ap length e in omega arith)
-nothing_named plain.Historic e = absurd (let n = ap length e in omega arith)
+nothing_named plain.Precision e = cc
+nothing_named plain.Band e = cc
+nothing_named plain.Historic e = cc
 
--- what words ask for is the blend of their line, where they are no words or of its form
-pub asked_none : (o : Option (Blend PlainScorer PlainScorer)) → Asked [] o → Blends [] o
-asked_none None a = refl
-asked_none (Some b) a = absurd (nothing_named b.first a.1)
+blend_of_none : (o : Option (Blend PlainScorer PlainScorer)) → Asked [] o → Blends [] o
+blend_of_none None a = refl
+blend_of_none (Some b) a = absurd (nothing_named b.first a.1)
 
-pub asked_line : (words : List (List ℕ)) (o : Option (Blend PlainScorer PlainScorer)) → WellWorded 5 words → Asked words o → Blends words o
-asked_line [] o well a = absurd (true≢false (sym well.1))
-asked_line (heading ∷ []) o well a = absurd (true≢false (sym well.1))
-asked_line (heading ∷ weight ∷ []) o well a = absurd (true≢false (sym well.1))
-asked_line (heading ∷ weight ∷ first ∷ []) o well a = absurd (true≢false (sym well.1))
-asked_line (heading ∷ weight ∷ first ∷ second ∷ words) (Some b) well a = (a.0 (well.0 1 (omega arith)), a.1, a.2)
-asked_line (heading ∷ weight ∷ first ∷ second ∷ words) None well (inl none) = let n = well.0 2 (omega arith) in absurd (none n.0 n.1)
-asked_line (heading ∷ weight ∷ first ∷ second ∷ words) None well (inr none) = let n = well.0 3 (omega arith) in absurd (none n.0 n.1)
+blend_of_line : (words : List (List ℕ)) (o : Option (Blend PlainScorer PlainScorer)) → WellWorded 5 words → Asked words o → Blends words o
+blend_of_line (heading ∷ weight ∷ first ∷ second ∷ words) (Some b) well a = (a.0 (well.0 1 (omega arith)), a.1, a.2)
+blend_of_line (heading ∷ weight ∷ first ∷ second ∷ words) None well (inl none) = let n = well.0 2 (omega arith) in absurd (none n.0 n.1)
+blend_of_line (heading ∷ weight ∷ first ∷ second ∷ words) None well (inr none) = let n = well.0 3 (omega arith) in absurd (none n.0 n.1)
+blend_of_line [] o well a = cc
+blend_of_line (heading ∷ []) o well a = cc
+blend_of_line (heading ∷ weight ∷ []) o well a = cc
+blend_of_line (heading ∷ weight ∷ first ∷ []) o well a = cc
 
--- what follows the first of a list, as a slice pattern has it
-pub after_heading : {X Y : Type 0} (f : X → Y) (xs : List X) → drop 1 (map f xs) ≡ map f (take (length xs - 1) (drop 1 xs))
-after_heading f [] = refl
-after_heading f (x ∷ xs) = ap (map f) (sym (take_rest (x ∷ xs) 1))
+module _ (lines : List Worded) (formed : WellFormed lines) where
+  -- the words after the heading of a line of numbers write numbers
+  pub numbers_at : (l : ℕ) (h : Heading) → l < 5 → ((k : ℕ) → expected_at l k ≡ many h k) → AllByRecursion SignedNumber (drop 1 (line_at lines l).words)
+  numbers_at l h needed form =
+      numbers_of l (line_at lines l).words (λ k. form (suc k) ∙ rw (ne_eqb (suc k) 0 (λ e. omega arith))) (formed.0 l (omega (arith, formed.1)))
 
--- a word is read at its place
-pub read_as : {N : Type 0} (P : List ℕ → Type 0) (f : List ℕ → N) (words line : List (List ℕ)) (k : ℕ) (word : List ℕ) (n : N) → words ≡ line → word ≡ get_or words k [] → (P word → n ≡ f word) → P (get_or line k []) → n ≡ f (get_or line k [])
-read_as P f words line k word n same at read fit =
-    let is = at ∙ ap (λ ws. get_or ws k []) same in
-    read (subst P (sym is) fit) ∙ ap f is
+  -- the word after the heading of a line of one word is what is expected
+  pub one_at : (l : ℕ) (h : Heading) (e : Expected) → l < 5 → may_end e ≡ false → ((k : ℕ) → expected_at l k ≡ one h e k) → Fits e (get_or (line_at lines l).words 1 [])
+  one_at l h e needed ends form = one_of l (line_at lines l).words h e ends form (formed.0 l (omega (arith, formed.1)))
 
--- the blend that lines of their form ask for
-pub asked_by : (lines : List Worded) (words : List (List ℕ)) (o : Option (Blend PlainScorer PlainScorer)) → WellFormed lines → words ≡ (line_at lines 5).words → Asked words o → Blends (line_at lines 5).words o
-asked_by lines words o formed same a =
-    let b : Asked (line_at lines 5).words o = subst (λ ws. Asked ws o) same a in
-    elim (cases_lt 5 (length lines)) [
-      | inl h ↦ asked_line (line_at lines 5).words o (formed.0 5 h) b
-      | inr h ↦ let past : (line_at lines 5).words ≡ [] = ap (λ w. w.words) (get_or_past lines 5 _ h) in subst (λ ws. Blends ws o) (sym past) (asked_none o (subst (λ ws. Asked ws o) past b))
-    ]
-
-pub many_more : (h : Heading) (k : ℕ) → many h (suc k) ≡ More
-many_more h k = rw (ne_eqb (suc k) 0 (λ e. omega arith))
+  -- what the words of the line after those ask for is its blend
+  pub blend_at : (o : Option (Blend PlainScorer PlainScorer)) → Asked (line_at lines 5).words o → Blends (line_at lines 5).words o
+  blend_at o a =
+      elim (cases_lt 5 (length lines)) [
+        | inl h ↦ blend_of_line (line_at lines 5).words o (formed.0 5 h) a
+        | inr h ↦ let past : (line_at lines 5).words ≡ [] = ap (λ w. w.words) (get_or_past lines 5 _ h) in subst (λ ws. Blends ws o) (sym past) (blend_of_none o (subst (λ ws. Asked ws o) past a))
+      ]

@@ -12,7 +12,7 @@ use Rattle.scorefile.specs.declared.fault.Misread.{Misread}
 use Rattle.scorefile.specs.declared.fault.FileFault.{FileFault}
 use Rattle.scorefile.specs.declared.fault.FileFault.TheVariants as fault
 
--- what may stand in the place of a heading
+-- what may stand instead of a line with this heading
 abbrev pub or_else : Heading → List ℕ
 or_else heading.Assigned = []
 or_else heading.Historic = []
@@ -21,9 +21,11 @@ or_else heading.Signal = []
 or_else heading.Points = []
 or_else heading.Blend = codes " or the end of the file"
 
+-- what is printed of a heading that is expected
 abbrev pub heading_text : Heading → List ℕ
 heading_text h = ((codes "the word '" ++ heading_word h) ++ codes "'") ++ or_else h
 
+-- what is printed of what is expected
 abbrev pub expected_text : Expected → List ℕ
 expected_text (expected.Heading h) = heading_text h
 expected_text expected.Whole = codes "a whole number from 0 to 4294967295"
@@ -33,6 +35,7 @@ expected_text expected.Scorer = codes "'precision', 'band' or 'historic'"
 expected_text expected.LineEnd = codes "the end of the line"
 expected_text expected.FileEnd = codes "the end of the file"
 
+-- what is printed of what is found
 abbrev pub found_text : Found → List ℕ
 found_text (found.Word w) = (codes "'" ++ string_bytes w) ++ codes "'"
 found_text found.LineEnd = expected_text expected.LineEnd
@@ -44,9 +47,11 @@ printed_line line (found.Word w) = line
 printed_line line found.LineEnd = line
 printed_line line found.FileEnd = min (line + 1) (2 ^ 64 - 1)
 
+-- what is printed of the first place that is not of its form
 abbrev pub misread_text : Misread → List ℕ
 misread_text m = ((((codes "line " ++ decimal (printed_line m.line m.found)) ++ codes ": expected ") ++ expected_text m.expected) ++ codes ", found ") ++ found_text m.found
 
+-- what is printed of a fault
 abbrev pub fault_text : FileFault → List ℕ
 fault_text (fault.Misread m) = misread_text m
 fault_text fault.NoMemory = codes "out of memory"

@@ -3,7 +3,7 @@ ghost use Rattle.scorefile.specs.Texts.{found_text, printed_line, misread_text, 
 ghost use Rattle.scorefile.specs.declared.fault.FileFault.TheVariants.{NoMemory};
 
 use crate::form::Expected;
-use std::alloc::{AllocError, AllocFailed};
+use std::alloc::AllocError;
 use std::error::Error;
 use std::fmt;
 
@@ -84,18 +84,14 @@ impl fmt::Display for FileFault {
 
 impl Error for FileFault {}
 
-impl From<AllocError> for FileFault {
+impl<E> From<E> for FileFault
+where
+    AllocError: From<E>,
+{
     ghost from_gives = { λ _ f. f ≡ NoMemory };
 
-    fn from(_e: AllocError) -> FileFault {
-        FileFault::NoMemory
-    }
-}
-
-impl<T: Drop> From<AllocFailed<T>> for FileFault {
-    ghost from_gives = { λ _ f. f ≡ NoMemory };
-
-    fn from(_e: AllocFailed<T>) -> FileFault {
+    fn from(e: E) -> FileFault {
+        let AllocError = AllocError::from(e);
         FileFault::NoMemory
     }
 }

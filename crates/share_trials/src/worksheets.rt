@@ -5,10 +5,10 @@ use std::test::Fail;
 
 // The words of a line.
 fn words_of(heap: Global, line: &str) -> Result<Vec<String>, Fail> {
-    let mut words = Vec::new(heap);
-    for word in line.split_whitespace() {
-        words.push(String::from_str(heap, word)?)?;
-    }
+    let words = line
+        .split_whitespace()
+        .map(|word| String::from_str(heap, word))
+        .try_collect(heap)?;
     Ok(words)
 }
 
