@@ -74,6 +74,15 @@ module _ (rs : List ℕ) where
   rank_high : (n k : ℕ) → k < n → r k < r n → among n n ≤ among n k
   rank_high n k l h = how_many_up (λ j. before rs j n) (λ j. before rs j k) n (λ j lj e. grind (arith, nat_tests))
 
+  self_not : (n : ℕ) → before rs n n ≡ false
+  self_not n = grind (arith, nat_tests)
+
+  next_low : (n k : ℕ) → k < n → r n ≤ r k → before rs n k ≡ false
+  next_low n k l h = grind (arith, nat_tests)
+
+  next_high : (n k : ℕ) → k < n → r k < r n → before rs n k ≡ true
+  next_high n k l h = grind (arith, nat_tests)
+
   -- at most as many units as the new place has before it: nothing changes
   few : (n m k : ℕ) → m ≤ among n n → k < n → nat_lt (among (suc n) k) m ≡ nat_lt (among n k) m
   few n m k h l = let high = rank_high n k l in grind (arith, nat_tests)

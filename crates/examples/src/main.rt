@@ -8,12 +8,22 @@ use std::fmt::Display;
 use std::{env, fs, io};
 use worksheet::RequestFault;
 
-fn show<F: Display + Drop>(rt: &HostRuntime, report: Result<String, F>) -> io::Result<()> {
+fn show<F: Display + Drop, W: FnOnce(&F) -> bool>(
+    rt: &HostRuntime,
+    report: Result<String, F>,
+    wants_memory: W,
+) -> io::Result<()>
+    requires { W.IsAlwaysCallable wants_memory }
+{
     match report {
-        Ok(text) => print!(rt; "{text}")?,
-        Err(fault) => println!(rt; "{fault}\nstatus 1")?,
+        Ok(text) => println!(rt; "{text}"),
+        Err(fault) => {
+            if wants_memory(&fault) {
+                return println!(rt; "out of memory");
+            }
+            println!(rt; "{fault}\nstatus 1\n")
+        }
     }
-    println!(rt; "")
 }
 
 fn share(rt: &HostRuntime, line: &Line) -> io::Result<()> {
@@ -22,10 +32,8 @@ fn share(rt: &HostRuntime, line: &Line) -> io::Result<()> {
         print!(rt; " {word}")?;
     }
     println!(rt; "")?;
-    match report_share(rt.alloc(), line.words.as_slice()) {
-        Err(RequestFault::NoMemory) => println!(rt; "out of memory"),
-        report => show(rt, report),
-    }
+    let report = report_share(rt.alloc(), line.words.as_slice());
+    show(rt, report, |fault| matches!(fault, RequestFault::NoMemory))
 }
 
 // Shares what each line of a file says.
@@ -43,10 +51,8 @@ fn share_all(rt: &HostRuntime, name: &str) -> io::Result<()> {
 fn score(rt: &HostRuntime, name: &str) -> io::Result<()> {
     println!(rt; "score {name}")?;
     let text = fs::read_to_string(rt, name)?;
-    match report_score(rt.alloc(), text.as_str()) {
-        Err(FileFault::NoMemory) => println!(rt; "out of memory"),
-        report => show(rt, report),
-    }
+    let report = report_score(rt.alloc(), text.as_str());
+    show(rt, report, |fault| matches!(fault, FileFault::NoMemory))
 }
 
 fn main(rt: HostRuntime) -> io::Result<()> {

@@ -6,7 +6,7 @@ use Rattle.std.proofs.lemmas.Bool.Decides.{nat_tests}
 use Rattle.std.proofs.lemmas.List.{get_or-reverse, length-reverse}
 use Rattle.std.specs.List.{list_all, find, range_with_len}
 use Rattle.std.specs.Option.{option_map, unwrap_or}
-use Rattle.plant.specs.Levels.{desired}
+use Rattle.plant.specs.Levels.{desired, last_end, toward}
 use Rattle.plant.specs.Plants.{Plant}
 use Rattle.plant.specs.Ranges.{energy_price_fits}
 use Rattle.plant.specs.Records.{block_at, before, start_after, level_holds, block_fault, blocks_fault, first_fault, curve_fault, range_fault, rule_fault, record_fault, lawful}
@@ -74,6 +74,16 @@ found_low : (test : Block → Bool) (top level : ℕ) (bs : List Block) → leve
 found_low test top level [] low all = low
 found_low test top level (b ∷ bs) low all =
     cond_both (test b) (Some b) (find test bs) (λ o. unwrap_or (option_map (λ b. b.end) o) level ≤ top) (λ _. all 0 (omega arith)) (λ _. found_low test top level bs low (λ k h. all (suc k) (omega arith)))
+
+-- nor does the last block that is priced at most lmp
+last_end_low : (top : ℕ) (lmp : ℤ) (bs : List Block) (level : ℕ) → level ≤ top → ((k : ℕ) → k < length bs → (block_at bs k).end ≤ top) → last_end lmp level bs ≤ top
+last_end_low top lmp bs level low all =
+    found_low (λ b. le_z b.price lmp) top level (reverse bs) low (λ n h.
+    let within : n < length bs = omega (arith, length-reverse bs) in
+    rw (get_or-reverse bs n _ within) (all (length bs - 1 - n) (omega arith)))
+
+pub toward_within : (most level aim low high : ℕ) → low ≤ level → level ≤ high → low ≤ aim → aim ≤ high → (low ≤ toward most level aim) × (toward most level aim ≤ high)
+toward_within most level aim low high a b c d = (omega arith, omega arith)
 
 -- a generator's desired level is within its limits
 pub desired_within : (p : Plant) → lawful p ≡ true → p.kind ≡ Generator → (lmp : ℤ) → (p.limits.eco_min ≤ desired p lmp) × (desired p lmp ≤ p.limits.eco_max)

@@ -1,3 +1,4 @@
 pub mod Walks
+pub mod Gathers
 pub mod Products
 pub mod Arrays

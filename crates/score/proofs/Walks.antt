@@ -1,7 +1,7 @@
--- One turn of the walk along the readings.
+-- One turn of the walk along the readings, and its end.
 use Rattle.std.proofs.Common.{◌≡◌, ℕ, ◌+◌, ◌*◌, ◌<◌, ◌≤◌, true, List, length, get_or, drop, ℤ, pos, nat_abs, sym, refl, ◌∙◌, arith}
 use Rattle.std.specs.List.{list_all}
-use Rattle.std.proofs.lemmas.List.{at_drop_more}
+use Rattle.std.proofs.lemmas.List.{at_drop_more, at_drop_all}
 use Rattle.std.proofs.lemmas.Int.{ints}
 use Rattle.std.proofs.lemmas.Bool.{leb-true}
 use Rattle.score.specs.Ranges.{reading_fits}
@@ -32,3 +32,9 @@ module _ (z : ℤ) (zs : List ℤ) (i m : ℕ) (before r : ℤ) (d : ℕ) (taken
       let t' : mileage_of before (drop i zs) ≡ distance r before + mileage_of r (drop (i + 1) zs) = rw here t in
       let l' : last_of before (drop i zs) ≡ last_of r (drop (i + 1) zs) = rw here l in
       record { mileage = omega (arith, t', step, so_far.mileage); last = sym l' ∙ so_far.last; bound = turn_bound; near = near_r }
+
+pub ended : (z : ℤ) (zs : List ℤ) (i m : ℕ) (before : ℤ) → length zs ≤ i → Walked z zs i m before → (m ≡ mileage_of z zs) × (before ≡ last_of z zs)
+ended z zs i m before left w =
+    let t : mileage_of before (drop i zs) ≡ 0 = at_drop_all (mileage_of before) zs i left in
+    let l : last_of before (drop i zs) ≡ before = at_drop_all (last_of before) zs i left in
+    (omega (arith, t, w.mileage), sym l ∙ w.last)

@@ -1,4 +1,4 @@
-ghost use Rattle.std.specs.Prelude.{◌≡◌, ◌≤◌, ◌&&◌, true, length, MatchResult};
+ghost use Rattle.std.specs.Prelude.{◌≡◌, ◌≤◌, ◌&&◌, true, length, IfOk};
 ghost use Rattle.std.specs.List.{list_all};
 ghost use Rattle.std.specs.Result.{result_err};
 ghost use Rattle.score.specs.Errors.{reading};
@@ -50,9 +50,8 @@ impl Signal<'_> {
     // The mileage of the readings and the last of them.
     pub fn mileage(&self) -> Result<(u32, i32), SignalRefusal>
         ensures answer { result_err result ≡ signal_refusal self.now.previous self.now.readings.now }
-        ensures walked { MatchResult result
-            (λ w. (w.0 ≡ mileage_of self.now.previous self.now.readings.now) × (w.1 ≡ last_of self.now.previous self.now.readings.now))
-            (λ _. Unit {0}) }
+        ensures walked { IfOk result
+            (λ w. (w.0 ≡ mileage_of self.now.previous self.now.readings.now) × (w.1 ≡ last_of self.now.previous self.now.readings.now)) }
     {
         if self.readings.len() != READINGS {
             return Err(SignalRefusal::ReadingCount);

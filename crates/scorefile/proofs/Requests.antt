@@ -56,14 +56,14 @@ blend_of_none : (o : Option (Blend PlainScorer PlainScorer)) → Asked [] o → 
 blend_of_none None a = refl
 blend_of_none (Some b) a = absurd (nothing_named b.first a.1)
 
-blend_of_line : (words : List (List ℕ)) (o : Option (Blend PlainScorer PlainScorer)) → WellWorded 5 words → Asked words o → Blends words o
-blend_of_line (heading ∷ weight ∷ first ∷ second ∷ words) (Some b) well a = (a.0 (well.0 1 (omega arith)), a.1, a.2)
-blend_of_line (heading ∷ weight ∷ first ∷ second ∷ words) None well (inl none) = let n = well.0 2 (omega arith) in absurd (none n.0 n.1)
-blend_of_line (heading ∷ weight ∷ first ∷ second ∷ words) None well (inr none) = let n = well.0 3 (omega arith) in absurd (none n.0 n.1)
-blend_of_line [] o well a = cc
-blend_of_line (heading ∷ []) o well a = cc
-blend_of_line (heading ∷ weight ∷ []) o well a = cc
-blend_of_line (heading ∷ weight ∷ first ∷ []) o well a = cc
+asked_line : (words : List (List ℕ)) (o : Option (Blend PlainScorer PlainScorer)) → WellWorded 5 words → Asked words o → Blends words o
+asked_line (heading ∷ weight ∷ first ∷ second ∷ words) (Some b) well a = (a.0 (well.0 1 (omega arith)), a.1, a.2)
+asked_line (heading ∷ weight ∷ first ∷ second ∷ words) None well (inl none) = let n = well.0 2 (omega arith) in absurd (none n.0 n.1)
+asked_line (heading ∷ weight ∷ first ∷ second ∷ words) None well (inr none) = let n = well.0 3 (omega arith) in absurd (none n.0 n.1)
+asked_line [] o well a = cc
+asked_line (heading ∷ []) o well a = cc
+asked_line (heading ∷ weight ∷ []) o well a = cc
+asked_line (heading ∷ weight ∷ first ∷ []) o well a = cc
 
 module _ (lines : List Worded) (formed : WellFormed lines) where
   -- the words after the heading of a line of numbers write numbers
@@ -79,6 +79,6 @@ module _ (lines : List Worded) (formed : WellFormed lines) where
   pub blend_at : (o : Option (Blend PlainScorer PlainScorer)) → Asked (line_at lines 5).words o → Blends (line_at lines 5).words o
   blend_at o a =
       elim (cases_lt 5 (length lines)) [
-        | inl h ↦ blend_of_line (line_at lines 5).words o (formed.0 5 h) a
+        | inl h ↦ asked_line (line_at lines 5).words o (formed.0 5 h) a
         | inr h ↦ let past : (line_at lines 5).words ≡ [] = ap (λ w. w.words) (get_or_past lines 5 _ h) in subst (λ ws. Blends ws o) (sym past) (blend_of_none o (subst (λ ws. Asked ws o) past a))
       ]

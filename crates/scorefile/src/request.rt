@@ -1,5 +1,6 @@
-ghost use Rattle.std.specs.Prelude.{◌≡◌, [], map, drop, IfOk, string_bytes, MatchResult, slice_index_or};
+ghost use Rattle.std.specs.Prelude.{◌≡◌, [], map, drop, IfOk, string_bytes, Result, MatchResult, slice_index_or};
 ghost use Rattle.std.specs.List.{AllByRecursion};
+ghost use Rattle.std.specs.Result.{ResultUnwrapsOrElse};
 ghost use Rattle.lines.specs.Reads.{worded};
 ghost use Rattle.scorefile.specs.Faults.{line_at, WellFormed};
 ghost use Rattle.scorefile.specs.Form.{SignedNumber, signed_of};
@@ -10,6 +11,7 @@ use crate::fault::FileFault;
 use lines::{Line, read_lines};
 use score::{Blend, PlainScorer};
 use std::alloc::{AllocError, Global};
+use std::str::FromStr;
 
 // What the scores of one resource in one interval are worked out from: the kW assigned, the historic score, the
 // reading before the interval's, its readings, the points sent, and a blend of two scorers if one is asked for.
@@ -37,6 +39,15 @@ fn word_at(words: &[String], place: usize) -> &str
     words.get(place).map_or("", |word| word.as_str())
 }
 
+// The number that a word writes; 0 where it writes none.
+fn number<T: FromStr + Default + Drop>(word: &str) -> T
+where
+    T::Err: Drop,
+    ensures { (read : Result T T.Err) × T.from_str_gives word.now read × ResultUnwrapsOrElse read T.is_default result }
+{
+    word.parse().unwrap_or_default()
+}
+
 // The numbers after the heading of a line.
 fn numbers(heap: Global, words: &[String]) -> Result<Vec<i32>, AllocError>
     requires { AllByRecursion SignedNumber (drop 1 (map string_bytes words.now)) }
@@ -45,7 +56,7 @@ fn numbers(heap: Global, words: &[String]) -> Result<Vec<i32>, AllocError>
     words
         .iter()
         .skip(1)
-        .map(|word| word.parse().unwrap_or(0))
+        .map(|word| number(word.as_str()))
         .collect(heap)
 }
 
@@ -55,7 +66,7 @@ fn blend_of(words: &[String]) -> Option<Blend<PlainScorer, PlainScorer>>
 {
     let first = word_at(words, 2).parse().ok()?;
     let second = word_at(words, 3).parse().ok()?;
-    let weight = word_at(words, 1).parse().unwrap_or(0);
+    let weight = number(word_at(words, 1));
     Some(Blend {
         first,
         second,
@@ -71,9 +82,9 @@ fn request_of(heap: Global, lines: &[Line]) -> Result<ScoreRequest, AllocError>
     let readings = numbers(heap, words_at(lines, 3))?;
     let points = numbers(heap, words_at(lines, 4))?;
     Ok(ScoreRequest {
-        assigned: word_at(words_at(lines, 0), 1).parse().unwrap_or(0),
-        historic: word_at(words_at(lines, 1), 1).parse().unwrap_or(0),
-        previous: word_at(words_at(lines, 2), 1).parse().unwrap_or(0),
+        assigned: number(word_at(words_at(lines, 0), 1)),
+        historic: number(word_at(words_at(lines, 1), 1)),
+        previous: number(word_at(words_at(lines, 2), 1)),
         readings,
         points,
         blend: blend_of(words_at(lines, 5)),

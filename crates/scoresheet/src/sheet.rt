@@ -1,4 +1,4 @@
-ghost use Rattle.std.specs.Prelude.{◌≡◌, IfOk, MatchResult};
+ghost use Rattle.std.specs.Prelude.{◌≡◌, IfOk};
 ghost use Rattle.std.specs.Result.{result_err};
 ghost use Rattle.score.specs.Signals.{mileage_of, last_of};
 ghost use Rattle.scoresheet.specs.Refusals.{sheet_refusal};
@@ -69,9 +69,8 @@ fn blend_score(
 // Follows the signal with the points of a request, or refuses them.
 fn track(request: &ScoreRequest) -> Result<Tracking, ScoreRefusal>
     ensures answer { result_err result ≡ sheet_refusal request.now }
-    ensures tracked { MatchResult result
-        (λ t. (t.mileage ≡ mileage_of request.now.previous request.now.readings.items) × (t.last ≡ last_of request.now.previous request.now.readings.items) × (t.errors ≡ request_errors request.now))
-        (λ _. Unit {0}) }
+    ensures tracked { IfOk result
+        (λ t. (t.mileage ≡ mileage_of request.now.previous request.now.readings.items) × (t.last ≡ last_of request.now.previous request.now.readings.items) × (t.errors ≡ request_errors request.now)) }
 {
     if !(SMALLEST_ASSIGNED..=LARGEST_ASSIGNED).contains(&request.assigned) {
         return Err(ScoreRefusal::Assigned);

@@ -12,22 +12,21 @@ fn words_of(heap: Global, line: &str) -> Result<Vec<String>, Fail> {
     Ok(words)
 }
 
-// What the program prints for the words of a line, and whether it fails.
+// What the program prints for the words of a line: an answer, or what is told where it fails.
 fn check_printed(
     rt: &impl Abort,
     heap: Global,
     line: &str,
-    text: &str,
-    failed: bool,
+    printed: Result<&str, &str>,
 ) -> Result<(), Fail> {
     let words = words_of(heap, line)?;
-    let report = report_share(heap, words.as_slice());
-    assert_eq!(rt; report.is_err(), failed);
-    let printed = match report {
-        Ok(text) => text,
-        Err(fault) => format!(in heap; "{fault}\n")?,
-    };
-    assert_eq!(rt; printed.as_str(), text);
+    match report_share(heap, words.as_slice()) {
+        Ok(text) => assert_eq!(rt; Ok(text.as_str()), printed),
+        Err(fault) => {
+            let text = format!(in heap; "{fault}\n")?;
+            assert_eq!(rt; Err(text.as_str()), printed);
+        }
+    }
     Ok(())
 }
 
@@ -38,34 +37,37 @@ fn sheets(rt: HostRuntime) -> Result<(), Fail> {
         &rt,
         heap,
         "10 3 3 1",
-        "place  weight  exact      remainders     running
+        Ok(
+            "place  weight  exact      remainders     running
     0       3      4 2/7           4           4
     1       3      4 2/7           4           4
     2       1      1 3/7           2           2
   sum       7     10              10          10
 ",
-        false,
+        ),
     )?;
     check_printed(
         &rt,
         heap,
         "12345678901 0 +10 20",
-        "place  weight        exact         remainders      running
+        Ok(
+            "place  weight        exact         remainders      running
     0       0            0                  0            0
     1      10   4115226300 10/30   4115226300   4115226300
     2      20   8230452600 20/30   8230452601   8230452601
   sum      30  12345678901        12345678901  12345678901
 ",
-        false,
+        ),
     )?;
     check_printed(
         &rt,
         heap,
         "0",
-        "place  weight  exact      remainders     running
+        Ok(
+            "place  weight  exact      remainders     running
   sum       0      0               0           0
 ",
-        false,
+        ),
     )
 }
 
@@ -76,49 +78,46 @@ fn faults(rt: HostRuntime) -> Result<(), Fail> {
         &rt,
         heap,
         "5 0 0",
-        "refused 18: the weights add up to 0 and the total does not\n",
-        false,
+        Ok("refused 18: the weights add up to 0 and the total does not\n"),
     )?;
     check_printed(
         &rt,
         heap,
         "4000000000000000001 1",
-        "refused 19: the total times the sum of the weights is above 4000000000000000000\n",
-        false,
+        Ok("refused 19: the total times the sum of the weights is above 4000000000000000000\n"),
     )?;
     check_printed(
         &rt,
         heap,
         "1 1 1 1 1 1 1 1 1 1 1 1 1 1 1 1 1 1 1 1 1 1 1 1 1 1 1 1 1 1 1 1 1 1",
-        "refused 6: more than 32 weights\n",
-        false,
+        Ok("refused 6: more than 32 weights\n"),
     )?;
     check_printed(
         &rt,
         heap,
         "",
-        "expected a total, a whole number from 0 to 18446744073709551615, found nothing\n",
-        true,
+        Err("expected a total, a whole number from 0 to 18446744073709551615, found nothing\n"),
     )?;
     check_printed(
         &rt,
         heap,
         "18446744073709551616 1",
-        "expected a total, a whole number from 0 to 18446744073709551615, found '18446744073709551616'\n",
-        true,
+        Err(
+            "expected a total, a whole number from 0 to 18446744073709551615, found '18446744073709551616'\n",
+        ),
     )?;
     check_printed(
         &rt,
         heap,
         "18446744073709551615 1 4294967296 x",
-        "expected a weight for place 1, a whole number from 0 to 4294967295, found '4294967296'\n",
-        true,
+        Err(
+            "expected a weight for place 1, a whole number from 0 to 4294967295, found '4294967296'\n",
+        ),
     )?;
     check_printed(
         &rt,
         heap,
         "1 1 -1",
-        "expected a weight for place 1, a whole number from 0 to 4294967295, found '-1'\n",
-        true,
+        Err("expected a weight for place 1, a whole number from 0 to 4294967295, found '-1'\n"),
     )
 }

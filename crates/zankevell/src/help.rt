@@ -1,5 +1,4 @@
 use crate::Failed;
-use crate::output::show;
 use std::io;
 
 const HELP: &str = "zankevell: exact settlement for a regulation pool
@@ -46,7 +45,8 @@ Examples:
 ";
 
 pub(crate) fn show_help(rt: &HostRuntime) -> Result<(), Failed> {
-    show(rt, HELP)
+    print!(rt; "{HELP}")?;
+    Ok(())
 }
 
 // Reports a command that there is none of, and shows how to call the program.
@@ -57,11 +57,5 @@ pub(crate) fn wrong_command(rt: &HostRuntime, command: &str) -> Result<(), Faile
         eprintln!(rt; "zankevell: expected a command, found '{command}'")?;
     }
     eprint!(rt; "\n{HELP}")?;
-    Err(Failed::Told)
-}
-
-// Reports that a command is not followed by what it needs.
-pub(crate) fn wrong_words(rt: &HostRuntime, command: &str, expected: &str) -> Result<(), Failed> {
-    eprintln!(rt; "zankevell {command}: expected {expected}")?;
     Err(Failed::Told)
 }

@@ -5,7 +5,7 @@ mod help;
 mod input;
 mod output;
 
-use help::{show_help, wrong_command, wrong_words};
+use help::{show_help, wrong_command};
 use input::read_input;
 use output::{fail, out_of_memory, show};
 use reports::{report_score, report_share};
@@ -30,23 +30,25 @@ impl From<io::Error> for Failed {
 }
 
 fn share(rt: &HostRuntime, words: &[String]) -> Result<(), Failed> {
-    match report_share(rt.alloc(), words) {
-        Ok(text) => show(rt, text.as_str()),
-        Err(RequestFault::NoMemory) => out_of_memory(rt),
-        Err(fault) => fail(rt, "share", &fault),
-    }
+    let report = report_share(rt.alloc(), words);
+    show(rt, "share", report, |fault| {
+        matches!(fault, RequestFault::NoMemory)
+    })
 }
 
 fn score(rt: &HostRuntime, words: &[String]) -> Result<(), Failed> {
     let [name] = words else {
-        return wrong_words(rt, "score", "the name of one file, or - for standard input");
+        return fail(
+            rt,
+            "score",
+            &"expected the name of one file, or - for standard input",
+        );
     };
     let text = read_input(rt, "score", name.as_str())?;
-    match report_score(rt.alloc(), text.as_str()) {
-        Ok(text) => show(rt, text.as_str()),
-        Err(FileFault::NoMemory) => out_of_memory(rt),
-        Err(fault) => fail(rt, "score", &fault),
-    }
+    let report = report_score(rt.alloc(), text.as_str());
+    show(rt, "score", report, |fault| {
+        matches!(fault, FileFault::NoMemory)
+    })
 }
 
 fn run(rt: &HostRuntime) -> Result<(), Failed> {
