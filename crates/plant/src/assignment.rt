@@ -1,6 +1,6 @@
 ghost use Rattle.std.specs.Prelude.{◌≡◌, ◌≤◌, true, IfOk};
-ghost use Rattle.score.specs.Ranges.{assigned_fits};
 ghost use Rattle.std.specs.Result.{result_err};
+ghost use Rattle.score.specs.Ranges.{assigned_fits};
 ghost use Rattle.plant.specs.Ranges.{offer_of, assignment_refusal};
 
 use crate::record::Schedule;

@@ -1,9 +1,9 @@
 ghost use Rattle.std.specs.Prelude.{◌≡◌, ◌+◌, ◌-◌, ◌*◌, ◌≤◌, true, IfOk};
+ghost use Rattle.std.specs.Int.{abs_diff};
 ghost use Rattle.std.specs.Option.{option_map};
 ghost use Rattle.std.specs.Result.{result_err};
 ghost use Rattle.plant.specs.Costs.{area};
 ghost use Rattle.plant.specs.Levels.{placing_refusal, desired, moved, set_point};
-ghost use Rattle.std.specs.Int.{abs_diff};
 ghost use Rattle.plant.specs.Plants.{plant_of};
 ghost use Rattle.plant.specs.Records.{record_fault, lawful};
 

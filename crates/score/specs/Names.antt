@@ -3,6 +3,7 @@ use Rattle.std.specs.Prelude.{◌≡◌, ℕ, List, codes}
 use Rattle.score.specs.declared.any.PlainScorer.{PlainScorer}
 use Rattle.score.specs.declared.any.PlainScorer.TheVariants as plain
 
+-- the name of each
 abbrev pub name_of : PlainScorer → List ℕ
 name_of plain.Precision = codes "precision"
 name_of plain.Band = codes "band"

@@ -13,17 +13,17 @@ use Rattle.scorefile.specs.declared.fault.FileFault.{FileFault}
 use Rattle.scorefile.specs.declared.fault.FileFault.TheVariants as fault
 
 -- what may stand instead of a line with this heading
-abbrev pub or_else : Heading → List ℕ
-or_else heading.Assigned = []
-or_else heading.Historic = []
-or_else heading.Previous = []
-or_else heading.Signal = []
-or_else heading.Points = []
-or_else heading.Blend = codes " or the end of the file"
+abbrev pub alternative : Heading → List ℕ
+alternative heading.Assigned = []
+alternative heading.Historic = []
+alternative heading.Previous = []
+alternative heading.Signal = []
+alternative heading.Points = []
+alternative heading.Blend = codes " or the end of the file"
 
 -- what is printed of a heading that is expected
 abbrev pub heading_text : Heading → List ℕ
-heading_text h = ((codes "the word '" ++ heading_word h) ++ codes "'") ++ or_else h
+heading_text h = ((codes "the word '" ++ heading_word h) ++ codes "'") ++ alternative h
 
 -- what is printed of what is expected
 abbrev pub expected_text : Expected → List ℕ
