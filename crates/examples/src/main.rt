@@ -1,27 +1,25 @@
 // Prints what both commands answer to examples, and 'status 1' where the program would end with it.
 #![tactic(auto)]
 
+use layout::FaultLine;
 use lines::{Line, read_lines};
-use reports::{report_score, report_share};
-use scorefile::FileFault;
+use reports::{made, report_score, report_share};
+use std::alloc::AllocError;
 use std::fmt::Display;
 use std::{env, fs, io};
-use worksheet::RequestFault;
 
-fn show<F: Display + Drop, W: FnOnce(&F) -> bool>(
+fn show<F: Display + Drop>(
     rt: &HostRuntime,
-    report: Result<String, F>,
-    wants_memory: W,
-) -> io::Result<()>
-    requires { W.IsAlwaysCallable wants_memory }
-{
+    report: Result<Result<String, F>, AllocError>,
+) -> io::Result<()> {
+    let Ok(report) = report else {
+        return println!(rt; "out of memory");
+    };
     match report {
         Ok(text) => println!(rt; "{text}"),
         Err(fault) => {
-            if wants_memory(&fault) {
-                return println!(rt; "out of memory");
-            }
-            println!(rt; "{fault}\nstatus 1\n")
+            let line = FaultLine { fault: &fault };
+            println!(rt; "{line}status 1\n")
         }
     }
 }
@@ -33,7 +31,7 @@ fn share(rt: &HostRuntime, line: &Line) -> io::Result<()> {
     }
     println!(rt; "")?;
     let report = report_share(rt.alloc(), line.words.as_slice());
-    show(rt, report, |fault| matches!(fault, RequestFault::NoMemory))
+    show(rt, made(report))
 }
 
 // Shares what each line of a file says.
@@ -52,7 +50,7 @@ fn score(rt: &HostRuntime, name: &str) -> io::Result<()> {
     println!(rt; "score {name}")?;
     let text = fs::read_to_string(rt, name)?;
     let report = report_score(rt.alloc(), text.as_str());
-    show(rt, report, |fault| matches!(fault, FileFault::NoMemory))
+    show(rt, made(report))
 }
 
 fn main(rt: HostRuntime) -> io::Result<()> {

@@ -1,3 +1,4 @@
+use layout::FaultLine;
 use reports::report_score;
 use std::alloc::Global;
 use std::process::Abort;
@@ -13,7 +14,8 @@ fn check_text(
     match report_score(heap, text) {
         Ok(answer) => assert_eq!(rt; Ok(answer.as_str()), printed),
         Err(fault) => {
-            let told = format!(in heap; "{fault}\n")?;
+            let line = FaultLine { fault: &fault };
+            let told = format!(in heap; "{line}")?;
             assert_eq!(rt; Err(told.as_str()), printed);
         }
     }

@@ -1,3 +1,4 @@
+use layout::FaultLine;
 use reports::report_share;
 use std::alloc::Global;
 use std::process::Abort;
@@ -23,7 +24,8 @@ fn check_printed(
     match report_share(heap, words.as_slice()) {
         Ok(text) => assert_eq!(rt; Ok(text.as_str()), printed),
         Err(fault) => {
-            let text = format!(in heap; "{fault}\n")?;
+            let line = FaultLine { fault: &fault };
+            let text = format!(in heap; "{line}")?;
             assert_eq!(rt; Err(text.as_str()), printed);
         }
     }

@@ -8,11 +8,9 @@ mod output;
 use help::{show_help, wrong_command};
 use input::read_input;
 use output::{fail, out_of_memory, show};
-use reports::{report_score, report_share};
-use scorefile::FileFault;
+use reports::{made, report_score, report_share};
 use std::process::ExitCode;
 use std::{env, io};
-use worksheet::RequestFault;
 
 // What ends the program with status 1.
 #[derive(Drop)]
@@ -30,10 +28,7 @@ impl From<io::Error> for Failed {
 }
 
 fn share(rt: &HostRuntime, words: &[String]) -> Result<(), Failed> {
-    let report = report_share(rt.alloc(), words);
-    show(rt, "share", report, |fault| {
-        matches!(fault, RequestFault::NoMemory)
-    })
+    show(rt, "share", made(report_share(rt.alloc(), words)))
 }
 
 fn score(rt: &HostRuntime, words: &[String]) -> Result<(), Failed> {
@@ -46,9 +41,7 @@ fn score(rt: &HostRuntime, words: &[String]) -> Result<(), Failed> {
     };
     let text = read_input(rt, "score", name.as_str())?;
     let report = report_score(rt.alloc(), text.as_str());
-    show(rt, "score", report, |fault| {
-        matches!(fault, FileFault::NoMemory)
-    })
+    show(rt, "score", made(report))
 }
 
 fn run(rt: &HostRuntime) -> Result<(), Failed> {

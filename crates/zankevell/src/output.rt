@@ -1,4 +1,6 @@
 use crate::Failed;
+use layout::FaultLine;
+use std::alloc::AllocError;
 use std::fmt::Display;
 use std::io;
 
@@ -8,30 +10,26 @@ pub(crate) fn out_of_memory(rt: &HostRuntime) -> Result<(), Failed> {
 }
 
 // Prints what a command answers, or reports why it fails.
-pub(crate) fn show<F: Display + Drop, W: FnOnce(&F) -> bool>(
+pub(crate) fn show<F: Display + Drop>(
     rt: &HostRuntime,
     command: &str,
-    report: Result<String, F>,
-    wants_memory: W,
-) -> Result<(), Failed>
-    requires { W.IsAlwaysCallable wants_memory }
-{
+    report: Result<Result<String, F>, AllocError>,
+) -> Result<(), Failed> {
+    let Ok(report) = report else {
+        return out_of_memory(rt);
+    };
     match report {
         Ok(text) => {
             print!(rt; "{text}")?;
             Ok(())
         }
-        Err(fault) => {
-            if wants_memory(&fault) {
-                return out_of_memory(rt);
-            }
-            fail(rt, command, &fault)
-        }
+        Err(fault) => fail(rt, command, &fault),
     }
 }
 
 // Reports why a command fails.
 pub(crate) fn fail<F: Display>(rt: &HostRuntime, command: &str, fault: &F) -> Result<(), Failed> {
-    eprintln!(rt; "zankevell {command}: {fault}")?;
+    let line = FaultLine { fault };
+    eprint!(rt; "zankevell {command}: {line}")?;
     Err(Failed::Told)
 }
