@@ -1,5 +1,5 @@
 ghost use Rattle.std.specs.Prelude.{◌≡◌, ◌<◌, length};
-ghost use Rattle.divide.specs.Remainders.{rests, spare, precedes, rank, remainders};
+ghost use Rattle.divide.specs.Remainders.{floors, rests, spare, precedes, rank, remainders};
 ghost use Rattle.divide.specs.Rests.{remainders_exact};
 
 use crate::divider::Divider;
@@ -11,27 +11,28 @@ use std::cmp::Reverse;
 #[derive(Clone, Copy)]
 pub struct Remainders;
 
+// Writes each weight's part of the total, rounded down, and its remainder.
+fn round_down(sharing: &Sharing, parts: &mut [u64], left: &mut [u64])
+    requires parts_long { length parts.old ≡ length sharing.now.weights.now }
+    requires left_long { length left.old ≡ length sharing.now.weights.now }
+    ensures parts { parts.new ≡ floors sharing.now.total sharing.now.weights.now }
+    ensures left { left.new ≡ rests sharing.now.total sharing.now.weights.now }
+{
+    for (place, weight) in sharing.weights.iter().enumerate() {
+        let weight = u64::from(*weight);
+        parts[place] = sharing.part(weight);
+        left[place] = sharing.rest(weight);
+    }
+}
+
 // The units of the total that the rounded parts leave over.
-fn left_over(sharing: &Sharing) -> u64
+fn left_over(sharing: &Sharing, parts: &[u64]) -> u64
+    requires { parts.now ≡ floors sharing.now.total sharing.now.weights.now }
     ensures { result ≡ spare sharing.now.total sharing.now.weights.now }
 {
     let total = sharing.total;
-    let given: u64 = sharing
-        .weights
-        .iter()
-        .map(|weight| sharing.part(u64::from(*weight)))
-        .sum();
+    let given: u64 = parts.iter().sum();
     total - given
-}
-
-// Writes the remainder of each weight's part.
-fn write_rests(sharing: &Sharing, left: &mut [u64])
-    requires { length left.old ≡ length sharing.now.weights.now }
-    ensures { left.new ≡ rests sharing.now.total sharing.now.weights.now }
-{
-    for (place, rest) in left.iter_mut().enumerate() {
-        *rest = sharing.rest(u64::from(sharing.weights[place]));
-    }
 }
 
 // Whether place `j` with the remainder `a` comes before place `k` with the remainder `b`.
@@ -49,8 +50,8 @@ fn places_before(left: &[u64], place: usize) -> usize
     let own = left[place];
     left.iter()
         .enumerate()
-        .filter(|(other, rest)| comes_before(**rest, *other, own, place))
-        .count()
+        .map(|(other, rest)| usize::from(comes_before(*rest, other, own, place)))
+        .sum()
 }
 
 // Writes the shares by largest remainders.
@@ -60,11 +61,12 @@ fn fill_remainders(sharing: &Sharing, out: &mut [u64])
 {
     let mut room = [0; MOST_WEIGHTS];
     let left = &mut room[..sharing.weights.len()];
-    write_rests(sharing, left);
-    let units = left_over(sharing);
+    round_down(sharing, out, left);
+    let units = left_over(sharing, out);
     for (place, share) in out.iter_mut().enumerate() {
-        let unit = (places_before(left, place) as u64) < units;
-        *share = sharing.part(u64::from(sharing.weights[place])) + u64::from(unit);
+        if (places_before(left, place) as u64) < units {
+            *share += 1;
+        }
     }
 }
 
@@ -75,7 +77,11 @@ impl Divider for Remainders {
 
     fn divide(&self, total: u64, weights: &[u32], out: &mut [u64]) -> Result<(), DivideRefusal> {
         let sharing = Sharing::new(total, weights, out.len())?;
-        fill_remainders(&sharing, out);
+        if total == 0 {
+            out.fill(0);
+        } else {
+            fill_remainders(&sharing, out);
+        }
         Ok(())
     }
 }

@@ -13,12 +13,22 @@ const BAND: u64 = 1_000;
 #[derive(Clone, Copy)]
 pub struct Band;
 
+// Whether an error is at most `most`.
+fn is_at_most(error: u64, most: u64) -> bool
+    ensures { result ≡ nat_le error most }
+{
+    error <= most
+}
+
 // How many errors are at most `most`.
 fn count_within(errors: &[u64], most: u64) -> usize
     ensures count { result ≡ count_by (λ e. nat_le e most) errors.now }
     ensures few { result ≤ length errors.now }
 {
-    errors.iter().filter(|error| **error <= most).count()
+    errors
+        .iter()
+        .map(|error| usize::from(is_at_most(*error, most)))
+        .sum()
 }
 
 impl Scorer for Band {
