@@ -14,7 +14,7 @@ use Rattle.plant.specs.declared.record.Block.{Block}
 use Rattle.plant.specs.declared.record.Kind.TheVariants.{Generator}
 
 -- no place of those looked at has a fault
-first_each : {E : Type 0} (f : ℕ → Option E) (a n : ℕ) → first_fault f (range_with_len a n) ≡ None → (k : ℕ) → a ≤ k → k < a + n → f k ≡ None
+pub first_each : {E : Type 0} (f : ℕ → Option E) (a n : ℕ) → first_fault f (range_with_len a n) ≡ None → (k : ℕ) → a ≤ k → k < a + n → f k ≡ None
 first_each f a zero e k low high = absurd (omega arith)
 first_each f a (suc n) e k low high =
     let later = first_each f (a + 1) n in
@@ -59,7 +59,7 @@ start_next : (bs : List Block) (k : ℕ) → start_after (before bs (k + 1)) ≡
 start_next bs k = grind (arith, nat_tests)
 
 -- where each block keeps the rule of levels, none ends above the last, which is eco max
-ends_low : (top : ℕ) (bs : List Block) → ((k : ℕ) → k < length bs → level_holds top (before bs k) (block_at bs k) (eqb (k + 1) (length bs)) ≡ true) → (n k : ℕ) → k + n + 1 ≡ length bs → (block_at bs k).end ≤ top
+pub ends_low : (top : ℕ) (bs : List Block) → ((k : ℕ) → k < length bs → level_holds top (before bs k) (block_at bs k) (eqb (k + 1) (length bs)) ≡ true) → (n k : ℕ) → k + n + 1 ≡ length bs → (block_at bs k).end ≤ top
 ends_low top bs all zero k e =
     let here = all k (omega arith) in
     grind (arith, nat_tests)

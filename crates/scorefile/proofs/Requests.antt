@@ -37,12 +37,12 @@ module _ {S A B C R F : Type 0} (steps : S → Option A → S → Type 0) (v : A
   pub reads_each : {s : Map S F} (ys : List B) (zs : List C) → zs ≡ map p ys → AllByRecursion P zs → map_callee s ≡ f → YieldsList steps v (map_source s) ys → YieldsList (maps steps g) (λ r. r) s (map h zs)
   reads_each {s} ys zs e all is road = subst (λ l. YieldsList (maps steps g) (λ r. r) s (map h l)) (sym e) (record { runs = yields s ys (subst (AllByRecursion P) e all) road.runs is })
 
-numbers_of : (l : ℕ) (words : List (List ℕ)) → ((k : ℕ) → expected_at l (suc k) ≡ More) → WellWorded l words → AllByRecursion SignedNumber (drop 1 words)
+pub numbers_of : (l : ℕ) (words : List (List ℕ)) → ((k : ℕ) → expected_at l (suc k) ≡ More) → WellWorded l words → AllByRecursion SignedNumber (drop 1 words)
 numbers_of l [] more well = tt
 numbers_of l (heading ∷ words) more well =
     All-from_get_or SignedNumber words [] (λ k h. subst (λ e. Fits e (get_or words k [])) (more k) (well.0 (suc k) (omega arith)))
 
-one_of : (l : ℕ) (words : List (List ℕ)) (h : Heading) (e : Expected) → may_end e ≡ false → ((k : ℕ) → expected_at l k ≡ one h e k) → WellWorded l words → Fits e (get_or words 1 [])
+pub one_of : (l : ℕ) (words : List (List ℕ)) (h : Heading) (e : Expected) → may_end e ≡ false → ((k : ℕ) → expected_at l k ≡ one h e k) → WellWorded l words → Fits e (get_or words 1 [])
 one_of l [] h e ends form well = cc (ap may_end (form 0))
 one_of l (heading ∷ []) h e ends form well = cc (ap may_end (form 1))
 one_of l (heading ∷ word ∷ words) h e ends form well = subst (λ x. Fits x word) (form 1) (well.0 1 (omega arith))
@@ -56,7 +56,7 @@ blend_of_none : (o : Option (Blend PlainScorer PlainScorer)) → Asked [] o → 
 blend_of_none None a = refl
 blend_of_none (Some b) a = absurd (nothing_named b.first a.1)
 
-asked_line : (words : List (List ℕ)) (o : Option (Blend PlainScorer PlainScorer)) → WellWorded 5 words → Asked words o → Blends words o
+pub asked_line : (words : List (List ℕ)) (o : Option (Blend PlainScorer PlainScorer)) → WellWorded 5 words → Asked words o → Blends words o
 asked_line (heading ∷ weight ∷ first ∷ second ∷ words) (Some b) well a = (a.0 (well.0 1 (omega arith)), a.1, a.2)
 asked_line (heading ∷ weight ∷ first ∷ second ∷ words) None well (inl none) = let n = well.0 2 (omega arith) in absurd (none n.0 n.1)
 asked_line (heading ∷ weight ∷ first ∷ second ∷ words) None well (inr none) = let n = well.0 3 (omega arith) in absurd (none n.0 n.1)
